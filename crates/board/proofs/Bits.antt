@@ -1,0 +1,138 @@
+-- STAT bit by bit, of any status: what is set reads set, what is cleared reads clear, every other bit stays. And bit 0 of PRIO.
+-- What is asked of the masks alone is computed: at the bits by name it is `refl`.
+-- Assumes nothing.
+use mathlib.Core.Path.{_≡_, refl, sym, ap, ap₂, _∙_}
+use mathlib.Core.Bool.{Bool, true, false, not}
+use Prim.Native.Nat.{ℕ, zero, suc, _+_, _-_, _*_, _/_, _%_, _^_, _≤_, _<_}
+use native.Mathlib.Nat.{mod-lt, mod-eq-of-lt, zero-mul, one-mul, pow-suc}
+use native.Mathlib.Omega.{arith}
+use lib.Arith.{bin-ind}
+use lib.Bits.{bitAnd, bitOr, and-shr, and-mod, or-shr, or-mod, and-le-l, and-self, and-comm, and-zero-r, or-zero-r, or-add-and, or-lt, and-mask, and-high}
+use lib.Dec.{eqb, lit<}
+use borrow.Author.Tests.{eq-eqb, ne-eqb, eqb-true, eqb-false, not-true, not-false}
+use Rattle.board.specs.declared.status.Status.{Status}
+use Rattle.board.specs.Status.{stored, has, withBit, withoutBit, number, fifo, withFifo}
+use Rattle.board.proofs.EveryByte.{below, below-at}
+
+-- ---- equations that go digit by digit
+abbrev Digitwise : (ℕ → ℕ → ℕ → ℕ) → Type 0
+Digitwise f = (a b c : ℕ) → (f a b c / 2 ≡ f (a / 2) (b / 2) (c / 2)) × (f a b c % 2 ≡ f (a % 2) (b % 2) (c % 2))
+
+-- the two sides agree at digits
+abbrev alike : (ℕ → ℕ → ℕ → ℕ) → (ℕ → ℕ → ℕ → ℕ) → Bool
+alike f g = below (λ a. below (λ b. below (λ c. eqb (f a b c) (g a b c)) 2) 2) 2
+
+digit : (n : ℕ) → n % 2 < 2
+digit n = mod-lt n (lit< tt)
+
+alike-digits : (f g : ℕ → ℕ → ℕ → ℕ) → alike f g ≡ true → (a b c : ℕ) → f (a % 2) (b % 2) (c % 2) ≡ g (a % 2) (b % 2) (c % 2)
+alike-digits f g e a b c =
+    let p = below-at (λ a. below (λ b. below (λ c. eqb (f a b c) (g a b c)) 2) 2) 2 e (a % 2) (digit a) in
+    let q = below-at (λ b. below (λ c. eqb (f (a % 2) b c) (g (a % 2) b c)) 2) 2 p (b % 2) (digit b) in
+    eqb-true _ _ (below-at (λ c. eqb (f (a % 2) (b % 2) c) (g (a % 2) (b % 2) c)) 2 q (c % 2) (digit c))
+
+-- what holds of digits holds of numbers
+same-digits : (f g : ℕ → ℕ → ℕ → ℕ) → Digitwise f → Digitwise g → ((b c : ℕ) → f 0 b c ≡ g 0 b c) → alike f g ≡ true
+    → (a b c : ℕ) → f a b c ≡ g a b c
+same-digits f g df dg base e =
+    bin-ind (λ (n : ℕ). (b c : ℕ) → f n b c ≡ g n b c) base
+    (λ n ih b c.
+    let h : f n b c / 2 ≡ g n b c / 2 = df n b c .0 ∙ ih (b / 2) (c / 2) ∙ sym (dg n b c .0) in
+    let d : f n b c % 2 ≡ g n b c % 2 = df n b c .1 ∙ alike-digits f g e n b c ∙ sym (dg n b c .1) in
+    omega arith)
+
+and-or : (a b c : ℕ) → bitAnd (bitOr a b) c ≡ bitOr (bitAnd a c) (bitAnd b c)
+and-or =
+    same-digits (λ a b c. bitAnd (bitOr a b) c) (λ a b c. bitOr (bitAnd a c) (bitAnd b c))
+    (λ a b c. (
+      and-shr (bitOr a b) c 1 ∙ ap (λ (x : ℕ). bitAnd x (c / 2)) (or-shr a b 1),
+      and-mod (bitOr a b) c 1 ∙ ap (λ (x : ℕ). bitAnd x (c % 2)) (or-mod a b 1),
+    ))
+    (λ a b c. (
+      or-shr (bitAnd a c) (bitAnd b c) 1 ∙ ap₂ bitOr (and-shr a c 1) (and-shr b c 1),
+      or-mod (bitAnd a c) (bitAnd b c) 1 ∙ ap₂ bitOr (and-mod a c 1) (and-mod b c 1),
+    ))
+    (λ b c. refl) refl
+
+and-assoc : (a b c : ℕ) → bitAnd (bitAnd a b) c ≡ bitAnd a (bitAnd b c)
+and-assoc =
+    same-digits (λ a b c. bitAnd (bitAnd a b) c) (λ a b c. bitAnd a (bitAnd b c))
+    (λ a b c. (
+      and-shr (bitAnd a b) c 1 ∙ ap (λ (x : ℕ). bitAnd x (c / 2)) (and-shr a b 1),
+      and-mod (bitAnd a b) c 1 ∙ ap (λ (x : ℕ). bitAnd x (c % 2)) (and-mod a b 1),
+    ))
+    (λ a b c. (
+      and-shr a (bitAnd b c) 1 ∙ ap (bitAnd (a / 2)) (and-shr b c 1),
+      and-mod a (bitAnd b c) 1 ∙ ap (bitAnd (a % 2)) (and-mod b c 1),
+    ))
+    (λ b c. refl) refl
+
+-- ---- a bit set
+-- the bit reads set
+pub withBit-has : (s : Status) (bit : ℕ) → eqb bit 0 ≡ false → has (withBit s bit) bit ≡ true
+withBit-has s bit e =
+    let x : ℕ = bitAnd (s .0) bit in
+    let p : bitAnd (bitOr (s .0) bit) bit ≡ bitOr x bit = and-or (s .0) bit bit ∙ ap (bitOr x) (and-self bit) in
+    ap not (ne-eqb _ 0 (λ (z : bitAnd (bitOr (s .0) bit) bit ≡ 0).
+    let n : bit ≡ 0 = omega (arith, or-add-and x bit, and-le-l x bit) in eqb-false bit 0 e n))
+
+-- a bit apart stays
+pub withBit-other : (s : Status) (bit other : ℕ) → bitAnd bit other ≡ 0 → has (withBit s bit) other ≡ has s other
+withBit-other s bit other e =
+    ap (λ (x : ℕ). not (eqb x 0)) (and-or (s .0) bit other ∙ ap (bitOr (bitAnd (s .0) other)) e ∙ or-zero-r (bitAnd (s .0) other))
+
+-- the status stays a byte
+pub withBit-small : (s : Status) (bit : ℕ) → s .0 < 256 → bit < 256 → withBit s bit .0 < 256
+withBit-small s bit h k = or-lt 8 (s .0) bit h k
+
+whole-or-none : (x d bit : ℕ) → x ≡ d * bit → d < 2 → (x ≡ 0 → ⊥) → x ≡ bit
+whole-or-none x zero bit e h n = absurd (n (e ∙ zero-mul bit))
+whole-or-none x (suc zero) bit e h n = e ∙ one-mul bit
+whole-or-none x (suc (suc d)) bit e h n = absurd (omega arith)
+
+-- setting a bit that is set changes nothing
+pub withBit-again : (s : Status) (bit k : ℕ) → bit ≡ 2 ^ k → has s bit ≡ true → withBit s bit ≡ s
+withBit-again s bit k e h =
+    let n : 1 + k ≡ suc k = omega arith in
+    let w : 2 ^ (1 + k) - 2 ^ k ≡ 2 ^ k = rw n (omega (arith, pow-suc 2 k)) in
+    let d : bitAnd (s .0) bit ≡ s .0 / 2 ^ k % 2 * bit =
+    rw e (ap (bitAnd (s .0)) (sym w) ∙ and-high (s .0) 1 k) in
+    let p : bitAnd (s .0) bit ≡ bit = whole-or-none _ _ bit d (digit (s .0 / 2 ^ k)) (eqb-false _ 0 (not-true _ h)) in
+    ap stored (let r : bitOr (s .0) bit ≡ s .0 = omega (arith, or-add-and (s .0) bit) in r)
+
+-- ---- a bit cleared
+-- the bit reads clear
+pub withoutBit-has : (s : Status) (bit : ℕ) → bitAnd (255 - bit) bit ≡ 0 → has (withoutBit s bit) bit ≡ false
+withoutBit-has s bit e =
+    ap not (eq-eqb _ 0 (and-assoc (s .0) (255 - bit) bit ∙ ap (bitAnd (s .0)) e ∙ and-zero-r (s .0)))
+
+-- a bit apart stays
+pub withoutBit-other : (s : Status) (bit other : ℕ) → bitAnd (255 - bit) other ≡ other → has (withoutBit s bit) other ≡ has s other
+withoutBit-other s bit other e =
+    ap (λ (x : ℕ). not (eqb x 0)) (and-assoc (s .0) (255 - bit) other ∙ ap (bitAnd (s .0)) e)
+
+-- the status stays a byte
+pub withoutBit-small : (s : Status) (bit : ℕ) → s .0 < 256 → withoutBit s bit .0 < 256
+withoutBit-small s bit h = omega (arith, and-le-l (s .0) (255 - bit))
+
+-- clearing a bit that is clear changes nothing
+pub withoutBit-again : (s : Status) (bit : ℕ) → s .0 < 256 → bitOr (255 - bit) bit ≡ 255 → has s bit ≡ false → withoutBit s bit ≡ s
+withoutBit-again s bit h e c =
+    let z : bitAnd bit (s .0) ≡ 0 = and-comm bit (s .0) ∙ eqb-true _ 0 (not-false _ c) in
+    ap stored (
+    and-comm (s .0) (255 - bit) ∙ sym (or-zero-r (bitAnd (255 - bit) (s .0))) ∙ ap (bitOr (bitAnd (255 - bit) (s .0))) (sym z)
+    ∙ sym (and-or (255 - bit) bit (s .0)) ∙ ap (λ (x : ℕ). bitAnd x (s .0)) e ∙ and-comm 255 (s .0) ∙ and-mask (s .0) 8
+    ∙ mod-eq-of-lt h)
+
+-- ---- PRIO
+-- with bit 0 set the number is the same
+pub number-withFifo : (p : ℕ) → number (withFifo p) ≡ number p
+number-withFifo p = omega arith
+
+-- bit 0 reads set
+pub fifo-withFifo : (p : ℕ) → fifo (withFifo p) ≡ true
+fifo-withFifo p = eq-eqb (withFifo p % 2) 1 (omega arith)
+
+-- the byte stays a byte
+pub withFifo-small : (p : ℕ) → p < 256 → withFifo p < 256
+withFifo-small p h = omega arith

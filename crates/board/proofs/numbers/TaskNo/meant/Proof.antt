@@ -1,0 +1,21 @@
+use native.Mathlib.Omega.{arith}
+use Rattle.board.proofs.Pieces.{outside-zero, outside-above, within-outside}
+use Rattle.board.proofs.numbers.TaskNo.meant.Statement.{statement}
+use Rattle.board.proofs.numbers.TaskNo.meant.Tie as tie
+use Rattle.board.proofs.numbers.TaskNo.meant.Reads as reads
+use Rattle.board.proofs.numbers.TaskNo.meant.Lts as lts
+
+-- src/numbers.rt:42:13
+returns : tie.Need-returns
+returns c = rw (outside-zero (c .before .args .z .tasks) (c .before .args .w) (c .if1 .taken))
+
+-- src/numbers.rt:45:13
+returns-2 : tie.Need-returns-2
+returns-2 c = rw (outside-above (c .before .before .before .args .z .tasks) (c .before .before .before .args .w) (c .if2 .taken))
+
+-- src/numbers.rt:38:5
+returns-3 : tie.Need-returns-3
+returns-3 c = rw (within-outside (c .before .before .before .args .z .tasks) (c .before .before .before .args .w) (omega arith) (c .if2 .left))
+
+pub meant-spec : {M : Type 1} → statement M
+meant-spec = tie.close (tie.spec returns returns-2 returns-3)

@@ -1,0 +1,6 @@
+pub mod Numbers
+pub mod Status
+pub mod Records
+pub mod Places
+pub mod Board
+pub mod Writes

@@ -1,0 +1,30 @@
+-- The two kinds of numbers and the sizes of a board. A reader must believe this file.
+--   small            the board of document 01: 32 tasks, 128 messages
+--   outside last n   n is 0 or above the last number
+--   taskMeant z w    the task that the word w means on a board of size z, if any; messageMeant likewise
+-- Assumes nothing.
+use mathlib.Core.Bool.{Bool, cond, _||_}
+use Prim.Native.Nat.{ℕ}
+use lib.Dec.{eqb, ltb}
+use Rattle.board.specs.declared.numbers.Size.{Size}
+use Rattle.board.specs.declared.numbers.TaskNo.{TaskNo}
+use Rattle.board.specs.declared.numbers.MsgNo.{MsgNo}
+use Rattle.board.specs.declared.numbers.TaskMeant.{TaskMeant}
+use Rattle.board.specs.declared.numbers.TaskMeant.the-variants.{Task, NoTask}
+use Rattle.board.specs.declared.numbers.MessageMeant.{MessageMeant}
+use Rattle.board.specs.declared.numbers.MessageMeant.the-variants.{Message, NoMessage}
+
+abbrev pub small : Size
+small = record { tasks = 32; messages = 128 }
+
+abbrev pub outside : ℕ → ℕ → Bool
+outside last n = eqb n 0 || ltb last n
+
+abbrev pub taskNo : ℕ → TaskNo
+taskNo k = record { 0 = k }
+
+abbrev pub taskMeant : Size → ℕ → TaskMeant
+taskMeant z w = cond (outside (z .tasks) w) NoTask (Task (record { 0 = w }))
+
+abbrev pub messageMeant : Size → ℕ → MessageMeant
+messageMeant z w = cond (outside (z .messages) w) NoMessage (Message (record { 0 = w }))

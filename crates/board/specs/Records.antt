@@ -1,0 +1,58 @@
+-- Task and message records and the bytes they are made of: document 01, 'What the board holds'. A reader must believe this file.
+--   wordAt l i          the word at i, low byte first; wordBytes w its two bytes
+--   taskOf l            the task record in these ten bytes, taskBytes t the bytes of a record; messageOf, messageBytes: eight bytes
+--   noTask, noMessage   the records of zeros
+--   taskWithStat t s .. the record with one field changed, the others as they were
+-- Assumes nothing.
+use mathlib.Core.List.{List, [], _∷_, _++_}
+use Prim.Native.Nat.{ℕ, _+_, _*_, _/_, _%_}
+use lib.ListN.{getD}
+use Rattle.board.specs.declared.status.Status.{Status}
+use Rattle.board.specs.declared.records.Task.{Task}
+use Rattle.board.specs.declared.records.Message.{Message}
+use Rattle.board.specs.Status.{stored}
+
+-- ---- words
+abbrev pub wordAt : List ℕ → ℕ → ℕ
+wordAt l i = getD l i 0 + 256 * getD l (i + 1) 0
+
+abbrev pub wordBytes : ℕ → List ℕ
+wordBytes w = w % 256 ∷ w / 256 ∷ []
+
+-- ---- a task: STAT, PRIO, LINK, MPTR, SPTR, NAME at 0, 1, 2, 4, 6, 8
+abbrev pub taskOf : List ℕ → Task
+taskOf l =
+    record { stat = stored (getD l 0 0); prio = getD l 1 0; link = wordAt l 2; mptr = wordAt l 4; sptr = wordAt l 6; name = wordAt l 8 }
+
+abbrev pub taskBytes : Task → List ℕ
+taskBytes t =
+    t .stat .0 ∷ t .prio ∷ wordBytes (t .link) ++ (wordBytes (t .mptr) ++ (wordBytes (t .sptr) ++ wordBytes (t .name)))
+
+abbrev pub noTask : Task
+noTask = record { stat = stored 0; prio = 0; link = 0; mptr = 0; sptr = 0; name = 0 }
+
+-- ---- a message: STAT, PRIO, LINK, RPTR, SPTR at 0, 1, 2, 4, 6
+abbrev pub messageOf : List ℕ → Message
+messageOf l = record { stat = getD l 0 0; prio = getD l 1 0; link = wordAt l 2; rptr = wordAt l 4; sptr = wordAt l 6 }
+
+abbrev pub messageBytes : Message → List ℕ
+messageBytes r = r .stat ∷ r .prio ∷ wordBytes (r .link) ++ (wordBytes (r .rptr) ++ wordBytes (r .sptr))
+
+abbrev pub noMessage : Message
+noMessage = record { stat = 0; prio = 0; link = 0; rptr = 0; sptr = 0 }
+
+-- ---- a record with one field changed
+abbrev pub taskWithStat : Task → Status → Task
+taskWithStat t s = record { stat = s; prio = t .prio; link = t .link; mptr = t .mptr; sptr = t .sptr; name = t .name }
+
+abbrev pub taskWithLink : Task → ℕ → Task
+taskWithLink t w = record { stat = t .stat; prio = t .prio; link = w; mptr = t .mptr; sptr = t .sptr; name = t .name }
+
+abbrev pub taskWithMptr : Task → ℕ → Task
+taskWithMptr t w = record { stat = t .stat; prio = t .prio; link = t .link; mptr = w; sptr = t .sptr; name = t .name }
+
+abbrev pub withPrio : Message → ℕ → Message
+withPrio r p = record { stat = r .stat; prio = p; link = r .link; rptr = r .rptr; sptr = r .sptr }
+
+abbrev pub withLink : Message → ℕ → Message
+withLink r w = record { stat = r .stat; prio = r .prio; link = w; rptr = r .rptr; sptr = r .sptr }

@@ -1,0 +1,102 @@
+// Task and message records by value (manual 3.2 and 3.3): a record hands back itself with one field changed.
+ghost use mathlib.Core.Path.{_≡_};
+ghost use Rattle.board.specs.Status.{isPresent, isReady, stored};
+ghost use Rattle.board.specs.Records.{noTask, noMessage, taskWithStat, taskWithLink, taskWithMptr, withPrio, withLink};
+use crate::status::Status;
+
+pub struct Task {
+    pub stat: Status,
+    pub prio: u8,
+    pub link: u16,
+    pub mptr: u16,
+    pub sptr: u16,
+    pub name: u16,
+}
+
+pub struct Message {
+    pub stat: u8,
+    pub prio: u8,
+    pub link: u16,
+    pub rptr: u16,
+    pub sptr: u16,
+}
+
+impl Task {
+    // The record of no task: ten zero bytes.
+    pub fn none() -> Task
+        ensures { λ res. ⌜ res ≡ noTask ⌝ }
+    {
+        Task {
+            stat: Status::stored(0),
+            prio: 0,
+            link: 0,
+            mptr: 0,
+            sptr: 0,
+            name: 0,
+        }
+    }
+
+    pub fn present(self) -> bool
+        ensures { λ res. ⌜ res ≡ isPresent (self .stat) ⌝ }
+    {
+        let s = self.stat;
+        s.present()
+    }
+
+    pub fn ready(self) -> bool
+        ensures { λ res. ⌜ res ≡ isReady (self .stat) ⌝ }
+    {
+        let s = self.stat;
+        s.ready()
+    }
+
+    pub fn with_stat(mut self, s: Status) -> Task
+        ensures { λ res. ⌜ res ≡ taskWithStat self s ⌝ }
+    {
+        self.stat = s;
+        self
+    }
+
+    pub fn with_link(mut self, w: u16) -> Task
+        ensures { λ res. ⌜ res ≡ taskWithLink self w ⌝ }
+    {
+        self.link = w;
+        self
+    }
+
+    pub fn with_mptr(mut self, w: u16) -> Task
+        ensures { λ res. ⌜ res ≡ taskWithMptr self w ⌝ }
+    {
+        self.mptr = w;
+        self
+    }
+}
+
+impl Message {
+    // The record of no message: eight zero bytes.
+    pub fn none() -> Message
+        ensures { λ res. ⌜ res ≡ noMessage ⌝ }
+    {
+        Message {
+            stat: 0,
+            prio: 0,
+            link: 0,
+            rptr: 0,
+            sptr: 0,
+        }
+    }
+
+    pub fn with_prio(mut self, p: u8) -> Message
+        ensures { λ res. ⌜ res ≡ withPrio self p ⌝ }
+    {
+        self.prio = p;
+        self
+    }
+
+    pub fn with_link(mut self, w: u16) -> Message
+        ensures { λ res. ⌜ res ≡ withLink self w ⌝ }
+    {
+        self.link = w;
+        self
+    }
+}

@@ -1,0 +1,34 @@
+-- Two tests at once, and a test of each number from 1 to n.
+-- Assumes nothing.
+use mathlib.Core.Path.{_≡_, refl, sym, ap, _∙_}
+use mathlib.Core.Bool.{Bool, true, false, _&&_, true≢false}
+use Prim.Native.Nat.{ℕ, zero, suc, _≤_}
+use native.Mathlib.Omega.{arith}
+use native.Mathlib.Decide.{ℕ-discrete}
+use Rattle.links.specs.Queue.{each}
+
+-- ---- two tests
+-- where both together pass, each passes
+pub both : (s t : Bool) → s && t ≡ true → (s ≡ true) × (t ≡ true)
+both true t e = (refl, e)
+both false t e = absurd (true≢false (sym e))
+
+-- where each passes, both together pass
+pub and-true : (s t : Bool) → s ≡ true → t ≡ true → s && t ≡ true
+and-true s t e h = rw (e, h)
+
+-- ---- each number from 1 to n
+-- what passes for each passes for any one
+pub each-at : (f : ℕ → Bool) (n : ℕ) → each f n ≡ true → (k : ℕ) → 1 ≤ k → k ≤ n → f k ≡ true
+each-at f zero e k h g = absurd (omega arith)
+each-at f (suc n) e k h g = let r = both (each f n) (f (suc n)) e in step (r .1) (ℕ-discrete k (suc n)) (each-at f n (r .0) k h)
+  where
+    step : f (suc n) ≡ true → Dec (k ≡ suc n) → (k ≤ n → f k ≡ true) → f k ≡ true
+    step top (yes i) ih = ap f i ∙ top
+    step top (no i) ih = ih (omega arith)
+
+-- what passes for any one passes for each
+pub each-all : (f : ℕ → Bool) (n : ℕ) → ((k : ℕ) → 1 ≤ k → k ≤ n → f k ≡ true) → each f n ≡ true
+each-all f zero h = refl
+each-all f (suc n) h =
+    and-true (each f n) (f (suc n)) (each-all f n (λ k g i. h k g (omega arith))) (h (suc n) (omega arith) (omega arith))

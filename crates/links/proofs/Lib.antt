@@ -1,0 +1,10 @@
+pub mod Cases
+pub mod Bools
+pub mod Members
+pub mod Chains
+pub mod Insertion
+pub mod Removal
+pub mod Exactly
+pub mod Seeking
+pub mod Relinks
+pub mod Listed

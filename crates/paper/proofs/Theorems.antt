@@ -1,0 +1,160 @@
+-- The claims of specs/Claims, proved. Assumes nothing.
+use mathlib.Core.Path.{_≡_, refl, sym, ap, _∙_}
+use mathlib.Core.Logic.{_⊎_, inl, inr}
+use mathlib.Core.Bool.{Bool, true, false, cond, true≢false}
+use mathlib.Core.List.{List, [], _∷_}
+use Prim.Native.Nat.{ℕ, _-_, _≤_}
+use native.Mathlib.Omega.{arith}
+use lib.ListN.{getD}
+use lib.Dec.{eqb, ltb}
+use borrow.Author.Tests.{ltb-true}
+use Rattle.board.specs.declared.numbers.Size.{Size}
+use Rattle.board.specs.declared.status.Status.{Status}
+use Rattle.board.specs.declared.records.Task.{Task}
+use Rattle.board.specs.Status.{MHBS, has}
+use Rattle.board.specs.Board.{Board, boardOf, bytesOf, task}
+use Rattle.paper.specs.declared.call.Call.{Call}
+use Rattle.paper.specs.declared.call.Call.the-variants.{Install, PostInterrupt, Find, CancelTask, Claim, Prepare, Release, Send, SendAndWait, Resend, ResendAndWait, Forward, ForwardAndWait, Return, ReturnAndWait, Receive, ReceiveAndWait, CancelMessage, WaitForInterrupt}
+use Rattle.paper.specs.declared.answer.Refusal.{Refusal}
+use Rattle.paper.specs.declared.answer.Refusal.the-variants.{WrongLength, RuleBroken, NobodyRuns, NoSuchMessage, NotHeld, NoSuchTask, BadPriority, NotInstallable, BadStatus, TaskBusy, NoneFree, NotQueued, NotItsSender, BadSender, NothingToDeliver}
+use Rattle.paper.specs.declared.answer.Answer.{Answer}
+use Rattle.paper.specs.declared.answer.Answer.the-variants.{Accepted, Refused}
+use Rattle.paper.specs.Answers.{numberOf, Handed, handed}
+use Rattle.paper.specs.Rules.{emptyQueue, running}
+use Rattle.paper.specs.Refusals.{Test, no1, no2, row, Verdict, Go, Stop, lowest}
+use Rattle.paper.specs.Step.{Outcome, Ends, Done, accepted, refused, judge, deliver, dispatchTo, dispatch, body, blank}
+use Rattle.paper.specs.Claims.{NoSecondOutcome, Unchanged, RefusalChangesNothing, Stands, Given, LowestIsGiven, HandedTells, FreshInstallAccepted, AnswersDiffer, InstallWrites}
+
+pub no-second-outcome : NoSecondOutcome
+no-second-outcome o a e l m h i = (h .answers ∙ sym (i .answers), h .leaves ∙ sym (i .leaves))
+
+-- ---- a refusal changes no byte
+unchanged-accepted : (v c m : ℕ) (l k : List ℕ) → Unchanged l (accepted v c m k)
+unchanged-accepted v c m l k q e = let z : _≡_ {A = ℕ} 0 1 = cc in absurd (omega arith)
+
+unchanged-cond : (t : Bool) (l : List ℕ) (o p : Outcome) → Unchanged l o → Unchanged l p → Unchanged l (cond t o p)
+unchanged-cond true l o p h i = h
+unchanged-cond false l o p h i = i
+
+unchanged-judge : (l : List ℕ) (v : Verdict) (o : Outcome) → Unchanged l o → Unchanged l (judge l v o)
+unchanged-judge l Go o h = h
+unchanged-judge l (Stop q) o h = λ k e. refl
+
+unchanged-deliver : (z : Size) (l : List ℕ) (d : Done) (c : ℕ) → Unchanged l (deliver z l d c)
+unchanged-deliver z l d c =
+    unchanged-cond (emptyQueue (d .board) c) l (refused l NothingToDeliver) _ (λ k e. refl) (unchanged-accepted _ _ _ l _)
+
+unchanged-dispatch : (z : Size) (l : List ℕ) (d : Done) (c : ℕ) → Unchanged l (dispatchTo z l d c)
+unchanged-dispatch z l d c =
+    unchanged-cond (has (task (d .board) c .stat) MHBS) l (deliver z l d c) (accepted (d .value) c 0 (bytesOf (d .board)))
+    (unchanged-deliver z l d c) (unchanged-accepted (d .value) c 0 l (bytesOf (d .board)))
+
+pub refusal-changes-nothing : RefusalChangesNothing
+refusal-changes-nothing z l = let b = boardOf z l in let c = running z b in (
+  (λ call. unchanged-judge l (lowest (row z l b c call)) (dispatch z l (body z b c call))
+      (unchanged-dispatch z l (body z b c call) (running z (body z b c call .board)))),
+  unchanged-judge l (lowest (no1 z l ∷ no2 z b ∷ [])) (accepted 0 c 0 l) (unchanged-accepted 0 c 0 l l),
+  unchanged-judge l (lowest (no1 z l ∷ [])) (accepted 0 0 0 (blank z)) (unchanged-accepted 0 0 0 l (blank z)),
+)
+
+-- ---- the lowest is given
+-- no number of the tests is below n, and they ascend
+abbrev Ascend : ℕ → List Test → Type 0
+Ascend n [] = Unit {0}
+Ascend n (t ∷ tests) = (ltb n (numberOf (t .refusal)) ≡ true) × Ascend (numberOf (t .refusal)) tests
+
+stands-above : (n : ℕ) (tests : List Test) → Ascend n tests → (t : Test) → Stands t tests → n ≤ numberOf (t .refusal)
+stands-above n [] h t i = absurd i
+stands-above n (s ∷ tests) h t (inl e) = let k = ltb-true n _ (h .0) in let q = ap (λ (x : Test). numberOf (x .refusal)) e in omega arith
+stands-above n (s ∷ tests) h t (inr i) = let k = ltb-true n _ (h .0) in let q = stands-above _ tests (h .1) t i in omega arith
+
+given-lowest : (n : ℕ) (tests : List Test) → Ascend n tests → Given (lowest tests) tests
+given-lowest n [] h = λ t i. absurd i
+given-lowest n (s ∷ tests) h = go (s .applies) refl (given-lowest _ tests (h .1))
+  where
+    goes : s .applies ≡ false → Given Go tests → Given Go (s ∷ tests)
+    goes e g t (inl q) = ap (λ (x : Test). x .applies) q ∙ e
+    goes e g t (inr i) = g t i
+
+    stops : (q : Refusal) → s .applies ≡ false → Given (Stop q) tests → Given (Stop q) (s ∷ tests)
+    stops q e g t (inl p) a = absurd (true≢false (sym a ∙ ap (λ (x : Test). x .applies) p ∙ e))
+    stops q e g t (inr i) a = g t i a
+
+    behind : (v : Verdict) → s .applies ≡ false → Given v tests → Given v (s ∷ tests)
+    behind Go e g = goes e g
+    behind (Stop q) e g = stops q e g
+
+    first : Given (Stop (s .refusal)) (s ∷ tests)
+    first t (inl q) a = let p = ap (λ (x : Test). numberOf (x .refusal)) q in omega arith
+    first t (inr i) a = stands-above (numberOf (s .refusal)) tests (h .1) t i
+
+    go : (v : Bool) → s .applies ≡ v → Given (lowest tests) tests
+        → Given (elim v [ true ↦ Stop (s .refusal) | false ↦ lowest tests ]) (s ∷ tests)
+    go true e g = first
+    go false e g = behind (lowest tests) e g
+
+-- every row of the table of calls ascends
+row-ascends : (z : Size) (l : List ℕ) (b : Board) (c : ℕ) (call : Call) → Ascend 0 (row z l b c call)
+row-ascends z l b c (Install k s p sptr name) = (refl, (refl, (refl, (refl, (refl, tt)))))
+row-ascends z l b c (PostInterrupt k) = (refl, (refl, (refl, tt)))
+row-ascends z l b c (Find name) = (refl, (refl, tt))
+row-ascends z l b c (CancelTask k) = (refl, (refl, (refl, (refl, (refl, tt)))))
+row-ascends z l b c Claim = (refl, (refl, (refl, (refl, tt))))
+row-ascends z l b c (Prepare m s p sptr) = (refl, (refl, (refl, (refl, (refl, (refl, tt))))))
+row-ascends z l b c (Release m) = (refl, (refl, (refl, (refl, (refl, tt)))))
+row-ascends z l b c (Send m r) = (refl, (refl, (refl, (refl, (refl, (refl, tt))))))
+row-ascends z l b c (SendAndWait m r) = (refl, (refl, (refl, (refl, (refl, (refl, tt))))))
+row-ascends z l b c (Resend m) = (refl, (refl, (refl, (refl, (refl, (refl, (refl, tt)))))))
+row-ascends z l b c (ResendAndWait m) = (refl, (refl, (refl, (refl, (refl, (refl, (refl, tt)))))))
+row-ascends z l b c (Forward m r) = (refl, (refl, (refl, (refl, (refl, (refl, (refl, tt)))))))
+row-ascends z l b c (ForwardAndWait m r) = (refl, (refl, (refl, (refl, (refl, (refl, (refl, tt)))))))
+row-ascends z l b c (Return m) = (refl, (refl, (refl, (refl, (refl, (refl, (refl, tt)))))))
+row-ascends z l b c (ReturnAndWait m) = (refl, (refl, (refl, (refl, (refl, (refl, (refl, tt)))))))
+row-ascends z l b c Receive = (refl, (refl, (refl, tt)))
+row-ascends z l b c ReceiveAndWait = (refl, (refl, (refl, tt)))
+row-ascends z l b c (CancelMessage m r) = (refl, (refl, (refl, (refl, (refl, (refl, (refl, tt)))))))
+row-ascends z l b c WaitForInterrupt = (refl, (refl, (refl, tt)))
+
+pub lowest-is-given : LowestIsGiven
+lowest-is-given z l b c call = given-lowest 0 (row z l b c call) (row-ascends z l b c call)
+
+-- ---- the paper's number and values tell the answer
+abbrev refusals : List Refusal
+refusals =
+    WrongLength ∷ RuleBroken ∷ NobodyRuns ∷ NoSuchMessage ∷ NotHeld ∷ NoSuchTask ∷ BadPriority ∷ NotInstallable ∷ BadStatus ∷ TaskBusy
+    ∷ NoneFree ∷ NotQueued ∷ NotItsSender ∷ BadSender ∷ NothingToDeliver ∷ []
+
+abbrev told : Handed → Answer
+told h =
+    cond (eqb (h .number) 0) (Accepted (h .value) (h .running) (h .delivered)) (Refused (getD refusals (h .number - 1) WrongLength))
+
+told-handed : (a : Answer) → told (handed a) ≡ a
+told-handed (Accepted v c m) = refl
+told-handed (Refused WrongLength) = refl
+told-handed (Refused RuleBroken) = refl
+told-handed (Refused NobodyRuns) = refl
+told-handed (Refused NoSuchMessage) = refl
+told-handed (Refused NotHeld) = refl
+told-handed (Refused NoSuchTask) = refl
+told-handed (Refused BadPriority) = refl
+told-handed (Refused NotInstallable) = refl
+told-handed (Refused BadStatus) = refl
+told-handed (Refused TaskBusy) = refl
+told-handed (Refused NoneFree) = refl
+told-handed (Refused NotQueued) = refl
+told-handed (Refused NotItsSender) = refl
+told-handed (Refused BadSender) = refl
+told-handed (Refused NothingToDeliver) = refl
+
+pub handed-tells : HandedTells
+handed-tells a e h = sym (told-handed a) ∙ ap told h ∙ told-handed e
+
+-- ---- not a definition that refuses all, answers always the same, or writes nothing
+pub fresh-install-accepted : FreshInstallAccepted
+fresh-install-accepted = refl
+
+pub answers-differ : AnswersDiffer
+answers-differ e = let z : _≡_ {A = ℕ} 1 0 = ap (λ (a : Answer). handed a .value) e in absurd (omega arith)
+
+pub install-writes : InstallWrites
+install-writes e = let z : _≡_ {A = ℕ} 1 0 = ap (λ (l : List ℕ). getD l 0 0) e in absurd (omega arith)

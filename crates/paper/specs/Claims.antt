@@ -1,0 +1,61 @@
+-- What holds of every call whatever its row says, as statements; their proofs are in proofs/Theorems. A reader must believe this file.
+--   NoSecondOutcome     a contract that says Ends .. o fixes the answer and all bytes
+--   RefusalChangesNothing   a refused call, check or fresh leaves every byte
+--   LowestIsGiven       of the refusals in a call's row the one given has the lowest number of those that apply, and none is given only
+--                       where none applies
+--   HandedTells         the paper's number and values tell the answer
+--   FreshInstallAccepted, AnswersDiffer, InstallWrites   the definitions refuse not all, answer not always the same, and do write
+-- Assumes nothing.
+use mathlib.Core.Path.{_≡_}
+use mathlib.Core.Logic.{_≢_, _⊎_}
+use mathlib.Core.Bool.{Bool, true, false}
+use mathlib.Core.List.{List, [], _∷_}
+use Prim.Native.Nat.{ℕ, _≤_, _<_}
+use Rattle.board.specs.declared.numbers.Size.{Size}
+use Rattle.board.specs.Numbers.{small}
+use Rattle.board.specs.Board.{Board}
+use Rattle.paper.specs.declared.call.Call.{Call}
+use Rattle.paper.specs.declared.call.Call.the-variants.{Install, Claim, Receive}
+use Rattle.paper.specs.declared.answer.Refusal.{Refusal}
+use Rattle.paper.specs.declared.answer.Answer.{Answer}
+use Rattle.paper.specs.declared.answer.Answer.the-variants.{Accepted, Refused}
+use Rattle.paper.specs.Answers.{numberOf, handed}
+use Rattle.paper.specs.Refusals.{Test, row, Verdict, Go, Stop, lowest}
+use Rattle.paper.specs.Step.{Outcome, Ends, effect, fresh, check, blank}
+
+abbrev pub NoSecondOutcome : Type 0
+NoSecondOutcome = (o : Outcome) (a e : Answer) (l m : List ℕ) → Ends a l o → Ends e m o → (a ≡ e) × (l ≡ m)
+
+-- ---- a refusal changes no byte
+abbrev pub Unchanged : List ℕ → Outcome → Type 0
+Unchanged l o = (q : Refusal) → o .answer ≡ Refused q → o .after ≡ l
+
+abbrev pub RefusalChangesNothing : Type 0
+RefusalChangesNothing =
+    (z : Size) (l : List ℕ) → ((call : Call) → Unchanged l (effect z l call)) × Unchanged l (check z l) × Unchanged l (fresh z l)
+
+-- ---- the lowest is given
+abbrev pub Stands : Test → List Test → Type 0
+Stands t [] = ⊥
+Stands t (s ∷ tests) = (t ≡ s) ⊎ Stands t tests
+
+abbrev pub Given : Verdict → List Test → Type 0
+Given Go tests = (t : Test) → Stands t tests → t .applies ≡ false
+Given (Stop q) tests = (t : Test) → Stands t tests → t .applies ≡ true → numberOf q ≤ numberOf (t .refusal)
+
+abbrev pub LowestIsGiven : Type 0
+LowestIsGiven = (z : Size) (l : List ℕ) (b : Board) (c : ℕ) (call : Call) → Given (lowest (row z l b c call)) (row z l b c call)
+
+abbrev pub HandedTells : Type 0
+HandedTells = (a e : Answer) → handed a ≡ handed e → a ≡ e
+
+-- ---- not a definition that refuses all, answers always the same, or writes nothing
+abbrev pub FreshInstallAccepted : Type 0
+FreshInstallAccepted = effect small (blank small) (Install 1 0x01 0x33 0 0) .answer ≡ Accepted 0 1 0
+
+abbrev pub AnswersDiffer : Type 0
+AnswersDiffer = let l = effect small (blank small) (Install 1 0x01 0x33 0 0) .after in
+    effect small l Claim .answer ≢ effect small l Receive .answer
+
+abbrev pub InstallWrites : Type 0
+InstallWrites = effect small (blank small) (Install 1 0x01 0x33 0 0) .after ≢ blank small

@@ -1,0 +1,18 @@
+-- A history: calls made one after another on the bytes of a board, refused ones among them. A reader must believe this file.
+--   run z l calls     the answer of each call, and the bytes after the last
+-- Assumes nothing.
+use mathlib.Core.List.{List, [], _∷_}
+use Prim.Native.Nat.{ℕ}
+use Rattle.board.specs.declared.numbers.Size.{Size}
+use Rattle.paper.specs.declared.call.Call.{Call}
+use Rattle.paper.specs.declared.answer.Answer.{Answer}
+use Rattle.paper.specs.Step.{Outcome, effect}
+
+pub record Past : Type 0 where
+  pub answers : List Answer
+  pub after : List ℕ
+
+abbrev pub run : Size → List ℕ → List Call → Past
+run z l [] = record { answers = []; after = l }
+run z l (call ∷ calls) = let o = effect z l call in let p = run z (o .after) calls in
+    record { answers = o .answer ∷ p .answers; after = p .after }

@@ -1,0 +1,132 @@
+-- Document 01, 'When a board can exist': the rules R1 to R7, at a record where the rule speaks of records. A reader must believe this file.
+--   present b k        task k is there
+--   order z b          the task queue, queue z b k the queue of task k: what the links visit
+--   emptyQueue b k     no message is queued at task k: MPTR is the first queued message, 0 for none
+--   running z b        the running task, 0 if none
+--   rule1 .. rule7     the rules; ruleNAt at one record
+--   passes z b         all of them hold
+-- Assumes nothing.
+use mathlib.Core.Bool.{Bool, true, false, not, _&&_, _||_}
+use mathlib.Core.List.{List, [], _∷_}
+use Prim.Native.Nat.{ℕ}
+use lib.Dec.{eqb, leb, ltb}
+use Rattle.links.specs.Queue.{walk, which, lists, firstWith, each}
+use Rattle.board.specs.declared.numbers.Size.{Size}
+use Rattle.board.specs.declared.numbers.TaskNo.{TaskNo}
+use Rattle.board.specs.declared.status.Status.{Status}
+use Rattle.board.specs.declared.records.Task.{Task}
+use Rattle.board.specs.declared.records.Message.{Message}
+use Rattle.board.specs.declared.places.Place.{Place}
+use Rattle.board.specs.declared.places.Place.the-variants.{Free, HeldBy, QueuedAt, Nowhere}
+use Rattle.board.specs.Status.{WAIT, IWAT, BIT5, INTQ, MHBS, TCBB, has, isPresent, isReady, number, fifo}
+use Rattle.board.specs.Places.{isQueuedAt}
+use Rattle.board.specs.Board.{Board, task, message, place}
+
+-- ---- what the rules speak of
+abbrev pub isThere : Task → Bool
+isThere t = isPresent (t .stat)
+
+abbrev pub present : Board → ℕ → Bool
+present b k = isThere (task b k)
+
+-- LINK is the next task, the next message
+abbrev pub nextTask : Board → ℕ → ℕ
+nextTask b k = task b k .link
+
+abbrev pub nextMessage : Board → ℕ → ℕ
+nextMessage b m = message b m .link
+
+-- a walk follows at most as many links as the board has messages, 128 on the small board, in either kind of queue
+abbrev pub order : Size → Board → List ℕ
+order z b = walk (nextTask b) (z .messages) (b .first)
+
+abbrev pub queue : Size → Board → ℕ → List ℕ
+queue z b k = walk (nextMessage b) (z .messages) (task b k .mptr)
+
+abbrev pub emptyQueue : Board → ℕ → Bool
+emptyQueue b k = eqb (task b k .mptr) 0
+
+abbrev pub taskNumber : Board → ℕ → ℕ
+taskNumber b k = number (task b k .prio)
+
+abbrev pub messageNumber : Board → ℕ → ℕ
+messageNumber b m = number (message b m .prio)
+
+-- the running task is the first ready one in queue order
+abbrev pub ready : Board → ℕ → Bool
+ready b k = isReady (task b k .stat)
+
+abbrev pub running : Size → Board → ℕ
+running z b = firstWith (ready b) (order z b)
+
+-- ---- R1: bytes 1 to 3
+abbrev pub allZero : List ℕ → Bool
+allZero [] = true
+allZero (x ∷ l) = eqb x 0 && allZero l
+
+abbrev pub rule1 : Board → Bool
+rule1 b = allZero (b .zeros)
+
+-- ---- R2: a task record is absent, or one that a task can have
+abbrev pub zeroTask : Task → Bool
+zeroTask t =
+    eqb (t .stat .0) 0 && eqb (t .prio) 0 && eqb (t .link) 0 && eqb (t .mptr) 0 && eqb (t .sptr) 0 && eqb (t .name) 0
+
+abbrev pub taskPrio : ℕ → Bool
+taskPrio p = fifo p && leb 0x03 p && leb p 0xFD
+
+abbrev pub goodHead : Status → ℕ → Bool
+goodHead s p = has s TCBB && not (has s BIT5) && taskPrio p
+
+abbrev pub goodTask : Task → Bool
+goodTask t = zeroTask t || goodHead (t .stat) (t .prio)
+
+abbrev pub rule2At : Board → ℕ → Bool
+rule2At b k = goodTask (task b k)
+
+-- ---- R3: from byte 0 the links visit every present task once and no absent one, in the order of priorities
+abbrev pub rule3 : Size → Board → Bool
+rule3 z b = lists (nextTask b) (taskNumber b) (z .messages) (b .first) (which isThere 1 (b .tasks))
+
+-- ---- R4: a message and its place
+abbrev pub zeroMessage : Message → Bool
+zeroMessage r = eqb (r .stat) 0 && eqb (r .prio) 0 && eqb (r .link) 0 && eqb (r .rptr) 0 && eqb (r .sptr) 0
+
+-- RPTR and SPTR are task numbers or 0, of tasks that may be absent
+abbrev pub goodPointers : Size → Message → Bool
+goodPointers z r = leb (r .rptr) (z .tasks) && leb (r .sptr) (z .tasks)
+
+abbrev pub goodMessage : Size → (ℕ → Bool) → Message → Place → Bool
+goodMessage z there r Free = zeroMessage r
+goodMessage z there r (HeldBy k) = goodPointers z r && eqb (r .link) 0 && there (k .0)
+goodMessage z there r (QueuedAt k) = goodPointers z r && fifo (r .prio) && ltb (r .prio) 0xFF && there (k .0)
+goodMessage z there r (Nowhere p) = false
+
+abbrev pub rule4At : Size → Board → ℕ → Bool
+rule4At z b m = goodMessage z (present b) (message b m) (place b m)
+
+-- ---- R5: from MPTR of task k the links visit exactly the messages queued at k, once each, in the order of priorities
+abbrev pub rule5At : Size → Board → ℕ → Bool
+rule5At z b k =
+    lists (nextMessage b) (messageNumber b) (z .messages) (task b k .mptr) (which (isQueuedAt k) 1 (b .places))
+
+-- ---- R6: which flags go together, and with an empty queue
+abbrev pub goodFlags : Status → Bool → Bool
+goodFlags s empty =
+    not (has s WAIT && has s IWAT)
+    && (not (has s WAIT) || (empty && not (has s MHBS)))
+    && (not (has s IWAT) || (not (has s INTQ) && not (has s MHBS)))
+    && (not (has s MHBS) || not empty)
+
+abbrev pub rule6At : Board → ℕ → Bool
+rule6At b k = goodFlags (task b k .stat) (emptyQueue b k)
+
+-- ---- R7: the running task isn't due a message
+abbrev pub rule7 : Size → Board → Bool
+rule7 z b = not (has (task b (running z b) .stat) MHBS)
+
+-- ---- all of them
+abbrev pub passes : Size → Board → Bool
+passes z b =
+    rule1 b && each (rule2At b) (z .tasks) && rule3 z b && each (rule4At z b) (z .messages) && each (rule5At z b) (z .tasks)
+    && each (rule6At b) (z .tasks) && rule7 z b
