@@ -3,20 +3,22 @@
 -- Assumes nothing.
 use mathlib.Core.Path.{_≡_, refl, sym, ap, ap₂, _∙_}
 use mathlib.Core.Bool.{Bool, true, false, not}
-use Prim.Native.Nat.{ℕ, zero, suc, _+_, _-_, _*_, _/_, _%_, _^_, _≤_, _<_}
+use Prim.Native.Nat.{ℕ, zero, suc, _+_, _-_, _*_, _/_, _%_, _^_, _<_}
 use native.Mathlib.Nat.{mod-lt, mod-eq-of-lt, zero-mul, one-mul, pow-suc}
 use native.Mathlib.Omega.{arith}
 use lib.Arith.{bin-ind}
-use lib.Bits.{bitAnd, bitOr, and-shr, and-mod, or-shr, or-mod, and-le-l, and-self, and-comm, and-zero-r, or-zero-r, or-add-and, or-lt, and-mask, and-high}
+use lib.Bits.{bitAnd, bitOr, and-shr, and-mod, or-shr, or-mod, and-self, and-comm, and-zero-r, or-zero-r}
+use lib.Bits.{and-le-l, or-add-and, or-lt, and-mask, and-high}
 use lib.Dec.{eqb, lit<}
 use borrow.Author.Tests.{eq-eqb, ne-eqb, eqb-true, eqb-false, not-true, not-false}
 use Rattle.board.specs.declared.status.Status.{Status}
 use Rattle.board.specs.Status.{stored, has, withBit, withoutBit, number, fifo, withFifo}
 use Rattle.board.proofs.EveryByte.{below, below-at}
 
--- ---- equations that go digit by digit
-abbrev Digitwise : (ℕ → ℕ → ℕ → ℕ) → Type 0
-Digitwise f = (a b c : ℕ) → (f a b c / 2 ≡ f (a / 2) (b / 2) (c / 2)) × (f a b c % 2 ≡ f (a % 2) (b % 2) (c % 2))
+-- ---- equations of three numbers that go digit by digit
+record Digitwise (f : ℕ → ℕ → ℕ → ℕ) : Type 0 where
+  half : (a b c : ℕ) → f a b c / 2 ≡ f (a / 2) (b / 2) (c / 2)
+  last : (a b c : ℕ) → f a b c % 2 ≡ f (a % 2) (b % 2) (c % 2)
 
 -- the two sides agree at digits
 abbrev alike : (ℕ → ℕ → ℕ → ℕ) → (ℕ → ℕ → ℕ → ℕ) → Bool
@@ -25,8 +27,8 @@ alike f g = below (λ a. below (λ b. below (λ c. eqb (f a b c) (g a b c)) 2) 2
 digit : (n : ℕ) → n % 2 < 2
 digit n = mod-lt n (lit< tt)
 
-alike-digits : (f g : ℕ → ℕ → ℕ → ℕ) → alike f g ≡ true → (a b c : ℕ) → f (a % 2) (b % 2) (c % 2) ≡ g (a % 2) (b % 2) (c % 2)
-alike-digits f g e a b c =
+alike-last : (f g : ℕ → ℕ → ℕ → ℕ) → alike f g ≡ true → (a b c : ℕ) → f (a % 2) (b % 2) (c % 2) ≡ g (a % 2) (b % 2) (c % 2)
+alike-last f g e a b c =
     let p = below-at (λ a. below (λ b. below (λ c. eqb (f a b c) (g a b c)) 2) 2) 2 e (a % 2) (digit a) in
     let q = below-at (λ b. below (λ c. eqb (f (a % 2) b c) (g (a % 2) b c)) 2) 2 p (b % 2) (digit b) in
     eqb-true _ _ (below-at (λ c. eqb (f (a % 2) (b % 2) c) (g (a % 2) (b % 2) c)) 2 q (c % 2) (digit c))
@@ -37,35 +39,40 @@ same-digits : (f g : ℕ → ℕ → ℕ → ℕ) → Digitwise f → Digitwise 
 same-digits f g df dg base e =
     bin-ind (λ (n : ℕ). (b c : ℕ) → f n b c ≡ g n b c) base
     (λ n ih b c.
-    let h : f n b c / 2 ≡ g n b c / 2 = df n b c .0 ∙ ih (b / 2) (c / 2) ∙ sym (dg n b c .0) in
-    let d : f n b c % 2 ≡ g n b c % 2 = df n b c .1 ∙ alike-digits f g e n b c ∙ sym (dg n b c .1) in
+    let h : f n b c / 2 ≡ g n b c / 2 = df .half n b c ∙ ih (b / 2) (c / 2) ∙ sym (dg .half n b c) in
+    let d : f n b c % 2 ≡ g n b c % 2 = df .last n b c ∙ alike-last f g e n b c ∙ sym (dg .last n b c) in
     omega arith)
+
+first : Digitwise (λ a b c. a)
+first = record { half = λ a b c. refl; last = λ a b c. refl }
+
+second : Digitwise (λ a b c. b)
+second = record { half = λ a b c. refl; last = λ a b c. refl }
+
+third : Digitwise (λ a b c. c)
+third = record { half = λ a b c. refl; last = λ a b c. refl }
+
+and-digits : {f g : ℕ → ℕ → ℕ → ℕ} → Digitwise f → Digitwise g → Digitwise (λ a b c. bitAnd (f a b c) (g a b c))
+and-digits {f} {g} df dg = record {
+  half = λ a b c. and-shr (f a b c) (g a b c) 1 ∙ ap₂ bitAnd (df .half a b c) (dg .half a b c);
+  last = λ a b c. and-mod (f a b c) (g a b c) 1 ∙ ap₂ bitAnd (df .last a b c) (dg .last a b c);
+}
+
+or-digits : {f g : ℕ → ℕ → ℕ → ℕ} → Digitwise f → Digitwise g → Digitwise (λ a b c. bitOr (f a b c) (g a b c))
+or-digits {f} {g} df dg = record {
+  half = λ a b c. or-shr (f a b c) (g a b c) 1 ∙ ap₂ bitOr (df .half a b c) (dg .half a b c);
+  last = λ a b c. or-mod (f a b c) (g a b c) 1 ∙ ap₂ bitOr (df .last a b c) (dg .last a b c);
+}
 
 and-or : (a b c : ℕ) → bitAnd (bitOr a b) c ≡ bitOr (bitAnd a c) (bitAnd b c)
 and-or =
     same-digits (λ a b c. bitAnd (bitOr a b) c) (λ a b c. bitOr (bitAnd a c) (bitAnd b c))
-    (λ a b c. (
-      and-shr (bitOr a b) c 1 ∙ ap (λ (x : ℕ). bitAnd x (c / 2)) (or-shr a b 1),
-      and-mod (bitOr a b) c 1 ∙ ap (λ (x : ℕ). bitAnd x (c % 2)) (or-mod a b 1),
-    ))
-    (λ a b c. (
-      or-shr (bitAnd a c) (bitAnd b c) 1 ∙ ap₂ bitOr (and-shr a c 1) (and-shr b c 1),
-      or-mod (bitAnd a c) (bitAnd b c) 1 ∙ ap₂ bitOr (and-mod a c 1) (and-mod b c 1),
-    ))
-    (λ b c. refl) refl
+    (and-digits (or-digits first second) third) (or-digits (and-digits first third) (and-digits second third)) (λ b c. refl) refl
 
 and-assoc : (a b c : ℕ) → bitAnd (bitAnd a b) c ≡ bitAnd a (bitAnd b c)
 and-assoc =
     same-digits (λ a b c. bitAnd (bitAnd a b) c) (λ a b c. bitAnd a (bitAnd b c))
-    (λ a b c. (
-      and-shr (bitAnd a b) c 1 ∙ ap (λ (x : ℕ). bitAnd x (c / 2)) (and-shr a b 1),
-      and-mod (bitAnd a b) c 1 ∙ ap (λ (x : ℕ). bitAnd x (c % 2)) (and-mod a b 1),
-    ))
-    (λ a b c. (
-      and-shr a (bitAnd b c) 1 ∙ ap (bitAnd (a / 2)) (and-shr b c 1),
-      and-mod a (bitAnd b c) 1 ∙ ap (bitAnd (a % 2)) (and-mod b c 1),
-    ))
-    (λ b c. refl) refl
+    (and-digits (and-digits first second) third) (and-digits first (and-digits second third)) (λ b c. refl) refl
 
 -- ---- a bit set
 -- the bit reads set
@@ -95,8 +102,7 @@ pub withBit-again : (s : Status) (bit k : ℕ) → bit ≡ 2 ^ k → has s bit �
 withBit-again s bit k e h =
     let n : 1 + k ≡ suc k = omega arith in
     let w : 2 ^ (1 + k) - 2 ^ k ≡ 2 ^ k = rw n (omega (arith, pow-suc 2 k)) in
-    let d : bitAnd (s .0) bit ≡ s .0 / 2 ^ k % 2 * bit =
-    rw e (ap (bitAnd (s .0)) (sym w) ∙ and-high (s .0) 1 k) in
+    let d : bitAnd (s .0) bit ≡ s .0 / 2 ^ k % 2 * bit = rw e (ap (bitAnd (s .0)) (sym w) ∙ and-high (s .0) 1 k) in
     let p : bitAnd (s .0) bit ≡ bit = whole-or-none _ _ bit d (digit (s .0 / 2 ^ k)) (eqb-false _ 0 (not-true _ h)) in
     ap stored (let r : bitOr (s .0) bit ≡ s .0 = omega (arith, or-add-and (s .0) bit) in r)
 
@@ -107,7 +113,8 @@ withoutBit-has s bit e =
     ap not (eq-eqb _ 0 (and-assoc (s .0) (255 - bit) bit ∙ ap (bitAnd (s .0)) e ∙ and-zero-r (s .0)))
 
 -- a bit apart stays
-pub withoutBit-other : (s : Status) (bit other : ℕ) → bitAnd (255 - bit) other ≡ other → has (withoutBit s bit) other ≡ has s other
+pub withoutBit-other : (s : Status) (bit other : ℕ) → bitAnd (255 - bit) other ≡ other
+    → has (withoutBit s bit) other ≡ has s other
 withoutBit-other s bit other e =
     ap (λ (x : ℕ). not (eqb x 0)) (and-assoc (s .0) (255 - bit) other ∙ ap (bitAnd (s .0)) e)
 
@@ -116,7 +123,8 @@ pub withoutBit-small : (s : Status) (bit : ℕ) → s .0 < 256 → withoutBit s 
 withoutBit-small s bit h = omega (arith, and-le-l (s .0) (255 - bit))
 
 -- clearing a bit that is clear changes nothing
-pub withoutBit-again : (s : Status) (bit : ℕ) → s .0 < 256 → bitOr (255 - bit) bit ≡ 255 → has s bit ≡ false → withoutBit s bit ≡ s
+pub withoutBit-again : (s : Status) (bit : ℕ) → s .0 < 256 → bitOr (255 - bit) bit ≡ 255 → has s bit ≡ false
+    → withoutBit s bit ≡ s
 withoutBit-again s bit h e c =
     let z : bitAnd bit (s .0) ≡ 0 = and-comm bit (s .0) ∙ eqb-true _ 0 (not-false _ c) in
     ap stored (

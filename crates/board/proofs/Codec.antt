@@ -1,5 +1,5 @@
--- Nothing is lost between the bytes and the records: a record read back from its bytes is the record, bytes written back from a record
--- are the bytes, and so of the whole board.
+-- Nothing is lost between the bytes and the records: a record read back from its bytes is the record, bytes written back from a
+-- record are the bytes, and so of the whole board.
 -- Assumes nothing.
 use mathlib.Core.Path.{_≡_, refl, sym, ap, ap₂, _∙_}
 use mathlib.Core.Logic.{_≢_}
@@ -29,12 +29,13 @@ abbrev pub Small : List ℕ → Type 0
 Small [] = Unit {0}
 Small (x ∷ l) = (x < 256) × Small l
 
+-- so each is below 256
 pub small-at : (l : List ℕ) (i : ℕ) → Small l → getD l i 0 < 256
 small-at [] i h = omega arith
 small-at (x ∷ l) zero h = h .0
 small-at (x ∷ l) (suc i) h = small-at l i (h .1)
 
--- what the code knows of a slice of bytes
+-- what the code knows of a slice says so
 pub small-bytes : (l : List ℕ) → ((i : ℕ) → getD l i 0 < 256) → Small l
 small-bytes [] h = tt
 small-bytes (x ∷ l) h = (h 0, small-bytes l (λ i. h (suc i)))
@@ -56,7 +57,8 @@ bytesFrom i (suc n) l = getD l i 0 ∷ bytesFrom (suc i) n l
 
 drop-listed : (i n : ℕ) (l : List ℕ) → length l ≡ i + n → drop i l ≡ bytesFrom i n l
 drop-listed i zero l e = drop-of-length-le l {i = i} (omega arith)
-drop-listed i (suc n) l e = drop-cons l i 0 (omega arith) ∙ ap (λ (r : List ℕ). getD l i 0 ∷ r) (drop-listed (suc i) n l (omega arith))
+drop-listed i (suc n) l e =
+    drop-cons l i 0 (omega arith) ∙ ap (λ (r : List ℕ). getD l i 0 ∷ r) (drop-listed (suc i) n l (omega arith))
 
 -- ---- one record
 word-back : (w : ℕ) → w % 256 + 256 * (w / 256) ≡ w
@@ -81,12 +83,13 @@ task-back t =
       name = word-back (t .name) i;
     }
 
--- ten bytes written back from the task that they are
+-- ten bytes written back from the task that they are, are the bytes
 pub task-whole : (p : List ℕ) → length p ≡ 10 → Small p → taskBytes (taskOf p) ≡ p
 task-whole p e h =
     (λ i. getD p 0 0 ∷ getD p 1 0 ∷ word-whole p 2 h i ++ (word-whole p 4 h i ++ (word-whole p 6 h i ++ word-whole p 8 h i)))
     ∙ sym (drop-listed 0 10 p e)
 
+-- a message read back from its bytes is the message
 pub message-back : (r : Message) → messageOf (messageBytes r) ≡ r
 message-back r =
     λ i. record {
@@ -97,11 +100,13 @@ message-back r =
       sptr = word-back (r .sptr) i;
     }
 
+-- eight bytes written back from the message that they are, are the bytes
 pub message-whole : (p : List ℕ) → length p ≡ 8 → Small p → messageBytes (messageOf p) ≡ p
 message-whole p e h =
     (λ i. getD p 0 0 ∷ getD p 1 0 ∷ word-whole p 2 h i ++ (word-whole p 4 h i ++ word-whole p 6 h i)) ∙ sym (drop-listed 0 8 p e)
 
 -- ---- one place
+-- the byte 0 says free
 pub place-free : (z : Size) (p : ℕ) → p ≡ 0 → placeOf z p ≡ Free
 place-free z p e = rw (eq-eqb p 0 e)
 
@@ -179,12 +184,15 @@ bytes-board z l e h =
     ∙ ap (λ (r : List ℕ). getD l 0 0 ∷ r) (glue 3 1 l)
     ∙ sym (drop-cons l 0 0 (omega arith))
 
--- as many records as the board has
+-- ---- as many records as the board has
+-- tasks
 pub length-tasks : (z : Size) (l : List ℕ) → length (boardOf z l .tasks) ≡ z .tasks
 length-tasks z l = length-map (pieces (taskArea z) l) taskOf ∙ length-pieces (taskArea z) l
 
+-- messages
 pub length-messages : (z : Size) (l : List ℕ) → length (boardOf z l .messages) ≡ z .messages
 length-messages z l = length-map (pieces (messageArea z) l) messageOf ∙ length-pieces (messageArea z) l
 
+-- places
 pub length-places : (z : Size) (l : List ℕ) → length (boardOf z l .places) ≡ z .messages
 length-places z l = length-map (pieces (placeArea z) l) (placeIn z) ∙ length-pieces (placeArea z) l

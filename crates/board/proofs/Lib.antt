@@ -5,5 +5,5 @@ pub mod Pieces
 pub mod Codec
 pub mod Written
 pub mod Meant
-mod Reading
-mod Storing
+mod Access
+mod ByWord

@@ -45,10 +45,12 @@ module _ {A : Type 0} where
   length-put l (suc i) x = length-set l i x
 
   -- ---- a number beyond the last
+  -- it reads as none
   pub nth-beyond : (none : A) (l : List A) (k : ℕ) → length l < k → nth none l k ≡ none
   nth-beyond none l zero h = refl
   nth-beyond none l (suc i) h = List·getD-eq-default l none (omega arith)
 
+  -- writing it changes nothing
   pub put-beyond : (l : List A) (k : ℕ) (x : A) → length l < k → put l k x ≡ l
   put-beyond l zero x h = refl
   put-beyond l (suc i) x h = set-out l i x (omega arith)

@@ -1,10 +1,10 @@
--- Records that lie one behind the other, over any area (its base, its stride, its count): each is read where it lies, and writing one
--- changes that one and nothing before or behind the area.
+-- Records that lie one behind the other, over any area (its base, its stride, its count): each is read where it lies, and writing
+-- one changes that one and nothing before or behind the area.
 -- Assumes nothing.
 use mathlib.Core.Path.{_≡_, refl, sym, ap, ap₂, _∙_}
-use mathlib.Core.Bool.{Bool, true, false, true≢false, cond, _||_, or-true}
+use mathlib.Core.Bool.{Bool, true, false, true≢false, _||_, or-true}
 use mathlib.Core.Logic.{_≢_}
-use mathlib.Core.List.{List, [], _∷_, _++_}
+use mathlib.Core.List.{List, [], _∷_}
 use Prim.Native.Nat.{ℕ, zero, suc, _+_, _-_, _*_, _≤_, _<_}
 use native.Mathlib.Nat.{mul-le-mul-right, suc-mul, zero-mul}
 use native.Mathlib.Omega.{arith}
@@ -29,23 +29,27 @@ outside-within n k e =
     let h : k ≢ 0 = eqb-false k 0 (b .0) in
     (omega arith, ltb-false n k (b .1))
 
+-- a number from 1 to the last isn't outside
 pub within-outside : (n k : ℕ) → 1 ≤ k → k ≤ n → outside n k ≡ false
 within-outside n k h l = ap₂ _||_ (ne-eqb k 0 (λ (e : k ≡ 0). omega arith)) (le-ltb n k l)
 
+-- 0 is outside
 pub outside-zero : (n k : ℕ) → k ≡ 0 → outside n k ≡ true
 outside-zero n k e = ap (λ (t : Bool). t || ltb n k) (eq-eqb k 0 e)
 
+-- a number above the last is outside
 pub outside-above : (n k : ℕ) → n < k → outside n k ≡ true
 outside-above n k h = ap (λ (t : Bool). eqb k 0 || t) (lt-ltb n k h) ∙ or-true (eqb k 0)
 
 outside-beyond : (n i : ℕ) → outside n (suc i) ≡ true → n < suc i
 outside-beyond n i e = ltb-true n (suc i) (ap (λ (t : Bool). t || ltb n (suc i)) (sym (eqb·suc-zero i)) ∙ e)
 
--- a number outside reads as none, and writing it changes nothing
+-- a number outside reads as none
 pub nth-outside : {A : Type 0} (none : A) (l : List A) (k : ℕ) → outside (length l) k ≡ true → nth none l k ≡ none
 nth-outside none l zero e = refl
 nth-outside none l (suc i) e = nth-beyond none l (suc i) (outside-beyond (length l) i e)
 
+-- writing it changes nothing
 pub put-outside : {A : Type 0} (l : List A) (k : ℕ) (x : A) → outside (length l) k ≡ true → put l k x ≡ l
 put-outside l zero x e = refl
 put-outside l (suc i) x e = put-beyond l (suc i) x (outside-beyond (length l) i e)
@@ -113,6 +117,7 @@ cut-sets (suc n) w (suc i) o l vs e h v b =
 
 -- ---- the records of an area
 module _ (a : Area) where
+  -- there are as many as the area has
   pub length-pieces : (l : List ℕ) → length (pieces a l) ≡ a .count
   length-pieces l = length-cut (a .count) (a .stride) (drop (a .base) l)
 
@@ -191,8 +196,8 @@ module _ (a : Area) where
       ∙ cut-sets-behind (c .count) (c .stride) (start a k - c .base) (drop (c .base) l) vs (omega arith))
 
   -- an area behind this one stays
-  pub pieces-behind : (c : Area) (l : List ℕ) (k : ℕ) (vs : List ℕ) → length vs ≡ a .stride → a .base + a .count * a .stride ≤ c .base
-      → pieces c (putIn a l k vs) ≡ pieces c l
+  pub pieces-behind : (c : Area) (l : List ℕ) (k : ℕ) (vs : List ℕ) → length vs ≡ a .stride
+      → a .base + a .count * a .stride ≤ c .base → pieces c (putIn a l k vs) ≡ pieces c l
   pieces-behind c l k vs v h =
       putIn-keeps (pieces c) l k vs
       (λ e. ap (cut (c .count) (c .stride)) (drop-sets-before (c .base) (start a k) l vs (omega (arith, piece-within k e))))

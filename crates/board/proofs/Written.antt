@@ -1,9 +1,9 @@
--- One writer is one change of the board of records: what the code leaves in bytes of the right length, read as a board, is the board
--- with that record so and nothing else changed.
+-- One writer is one change of the board of records: what the code leaves in bytes of the right length, read as a board, is the
+-- board with that record so and nothing else changed.
 -- Assumes nothing.
 use mathlib.Core.Path.{_≡_, refl, sym, ap, _∙_}
 use mathlib.Core.List.{List, [], _∷_, map}
-use Prim.Native.Nat.{ℕ, zero, suc, _+_, _*_, _%_, _≤_, _<_}
+use Prim.Native.Nat.{ℕ, _+_, _*_, _%_, _≤_, _<_}
 use native.Mathlib.Nat.{mod-eq-of-lt}
 use native.Mathlib.Omega.{arith}
 use lib.Dec.{lit<}
@@ -17,7 +17,8 @@ use Rattle.board.specs.declared.places.Place.the-variants.{Free, HeldBy,
 use Rattle.board.specs.Numbers.{taskNo}
 use Rattle.board.specs.Records.{taskOf, taskBytes, messageOf, messageBytes}
 use Rattle.board.specs.Places.{placeOf, placeByte, placeIn, placeBytes}
-use Rattle.board.specs.Board.{Area, Board, total, taskArea, messageArea, placeArea, cut, pieces, boardOf, put, withFirst, withTask, withMessage, withPlace}
+use Rattle.board.specs.Board.{Area, total, taskArea, messageArea, placeArea, cut, pieces, boardOf, put}
+use Rattle.board.specs.Board.{withFirst, withTask, withMessage, withPlace}
 use Rattle.board.specs.Writes.{putIn, putFirst, putTask, putMessage, putPlace}
 use Rattle.board.proofs.Numbered.{map-put}
 use Rattle.board.proofs.Pieces.{pieces-put, pieces-before, pieces-behind, take-putIn}
@@ -25,8 +26,9 @@ use Rattle.board.proofs.Codec.{task-back, message-back, place-held, pla
 
 -- ---- any area
 -- a record's bytes written are that record written
-record-put : {A : Type 0} (a : Area) (f : List ℕ → A) (l : List ℕ) (k : ℕ) (vs : List ℕ) → a .base + a .count * a .stride ≤ length l
-    → length vs ≡ a .stride → map f (pieces a (putIn a l k vs)) ≡ put (map f (pieces a l)) k (f vs)
+record-put : {A : Type 0} (a : Area) (f : List ℕ → A) (l : List ℕ) (k : ℕ) (vs : List ℕ)
+    → a .base + a .count * a .stride ≤ length l → length vs ≡ a .stride
+    → map f (pieces a (putIn a l k vs)) ≡ put (map f (pieces a l)) k (f vs)
 record-put a f l k vs h v = ap (map f) (pieces-put a l k vs h v) ∙ map-put f (pieces a l) k vs
 
 rest-of-four : (l : List ℕ) → take 3 (drop 1 l) ≡ drop 1 (take 4 l)
@@ -43,11 +45,13 @@ head-put a l k vs h =
       rest-of-four d ∙ ap (drop 1) e ∙ sym (rest-of-four l),
     )
 
+-- and every area lies behind byte 0
 pieces-first : (a : Area) (l : List ℕ) (v : ℕ) → 1 ≤ a .base → pieces a (set l 0 v) ≡ pieces a l
 pieces-first a l v h = ap (cut (a .count) (a .stride)) (drop-set-lt (a .base) l 0 v h)
 
 -- ---- the board
 module _ (z : Size) (l : List ℕ) where
+  -- byte 0
   pub board-put-first : (v : ℕ) → 1 ≤ length l → boardOf z (putFirst l v) ≡ withFirst (boardOf z l) v
   board-put-first v h =
       λ i. record {
@@ -59,45 +63,56 @@ module _ (z : Size) (l : List ℕ) where
       }
 
   module _ (e : length l ≡ total z) where
+    -- a task
     pub board-put-task : (k : ℕ) (t : Task) → boardOf z (putTask z l k t) ≡ withTask (boardOf z l) k t
     board-put-task k t =
         let a : Area = taskArea z in
-        let h = head-put a l k (taskBytes t) (omega arith) in
-        let w = record-put a taskOf l k (taskBytes t) (omega arith) refl ∙ ap (put (boardOf z l .tasks) k) (task-back t) in
-        let m = pieces-behind a (messageArea z) l k (taskBytes t) refl (omega arith) in
-        let p = pieces-behind a (placeArea z) l k (taskBytes t) refl (omega arith) in
-        λ i. record { first = h .0 i; zeros = h .1 i; tasks = w i; messages = map messageOf (m i); places = map (placeIn z) (p i) }
+        let vs : List ℕ = taskBytes t in
+        let h = head-put a l k vs (omega arith) in
+        let w = record-put a taskOf l k vs (omega arith) refl ∙ ap (put (boardOf z l .tasks) k) (task-back t) in
+        let m = ap (map messageOf) (pieces-behind a (messageArea z) l k vs refl (omega arith)) in
+        let p = ap (map (placeIn z)) (pieces-behind a (placeArea z) l k vs refl (omega arith)) in
+        λ i. record { first = h .0 i; zeros = h .1 i; tasks = w i; messages = m i; places = p i }
 
+    -- a message
     pub board-put-message : (m : ℕ) (r : Message) → boardOf z (putMessage z l m r) ≡ withMessage (boardOf z l) m r
     board-put-message m r =
         let a : Area = messageArea z in
-        let h = head-put a l m (messageBytes r) (omega arith) in
-        let t = pieces-before a (taskArea z) l m (messageBytes r) (omega arith) in
-        let w = record-put a messageOf l m (messageBytes r) (omega arith) refl ∙ ap (put (boardOf z l .messages) m) (message-back r) in
-        let p = pieces-behind a (placeArea z) l m (messageBytes r) refl (omega arith) in
-        λ i. record { first = h .0 i; zeros = h .1 i; tasks = map taskOf (t i); messages = w i; places = map (placeIn z) (p i) }
+        let vs : List ℕ = messageBytes r in
+        let h = head-put a l m vs (omega arith) in
+        let t = ap (map taskOf) (pieces-before a (taskArea z) l m vs (omega arith)) in
+        let w = record-put a messageOf l m vs (omega arith) refl ∙ ap (put (boardOf z l .messages) m) (message-back r) in
+        let p = ap (map (placeIn z)) (pieces-behind a (placeArea z) l m vs refl (omega arith)) in
+        λ i. record { first = h .0 i; zeros = h .1 i; tasks = t i; messages = w i; places = p i }
 
-    -- the place that its byte says
-    pub board-put-place : (m : ℕ) (p : Place) → boardOf z (putPlace z l m p) ≡ withPlace (boardOf z l) m (placeOf z (placeByte p % 256))
+    -- the place that the stored byte says
+    pub board-put-place : (m : ℕ) (p : Place)
+        → boardOf z (putPlace z l m p) ≡ withPlace (boardOf z l) m (placeOf z (placeByte p % 256))
     board-put-place m p =
         let a : Area = placeArea z in
-        let h = head-put a l m (placeBytes p) (omega arith) in
-        let t = pieces-before a (taskArea z) l m (placeBytes p) (omega arith) in
-        let r = pieces-before a (messageArea z) l m (placeBytes p) (omega arith) in
-        let w = record-put a (placeIn z) l m (placeBytes p) (omega arith) refl in
-        λ i. record { first = h .0 i; zeros = h .1 i; tasks = map taskOf (t i); messages = map messageOf (r i); places = w i }
+        let vs : List ℕ = placeBytes p in
+        let h = head-put a l m vs (omega arith) in
+        let t = ap (map taskOf) (pieces-before a (taskArea z) l m vs (omega arith)) in
+        let r = ap (map messageOf) (pieces-before a (messageArea z) l m vs (omega arith)) in
+        let w = record-put a (placeIn z) l m vs (omega arith) refl in
+        λ i. record { first = h .0 i; zeros = h .1 i; tasks = t i; messages = r i; places = w i }
 
+    -- free
     pub board-put-free : (m : ℕ) → boardOf z (putPlace z l m Free) ≡ withPlace (boardOf z l) m Free
     board-put-free m = board-put-place m Free
 
+    -- held by a task of the board
     pub board-put-held : (m k : ℕ) → 1 ≤ k → k ≤ z .tasks → z .tasks ≤ 64
         → boardOf z (putPlace z l m (HeldBy (taskNo k))) ≡ withPlace (boardOf z l) m (HeldBy (taskNo k))
     board-put-held m k h n s =
+        let b : k < 256 = omega arith in
         board-put-place m (HeldBy (taskNo k))
-        ∙ ap (withPlace (boardOf z l) m) (ap (placeOf z) (mod-eq-of-lt (let b : k < 256 = omega arith in b)) ∙ place-held z k h n)
+        ∙ ap (withPlace (boardOf z l) m) (ap (placeOf z) (mod-eq-of-lt b) ∙ place-held z k h n)
 
+    -- queued at a task of the board
     pub board-put-queued : (m k : ℕ) → 1 ≤ k → k ≤ z .tasks → z .tasks ≤ 64
         → boardOf z (putPlace z l m (QueuedAt (taskNo k))) ≡ withPlace (boardOf z l) m (QueuedAt (taskNo k))
     board-put-queued m k h n s =
+        let b : 64 + k < 256 = omega arith in
         board-put-place m (QueuedAt (taskNo k))
-        ∙ ap (withPlace (boardOf z l) m) (ap (placeOf z) (mod-eq-of-lt (let b : 64 + k < 256 = omega arith in b)) ∙ place-queued z k h n s)
+        ∙ ap (withPlace (boardOf z l) m) (ap (placeOf z) (mod-eq-of-lt b) ∙ place-queued z k h n s)

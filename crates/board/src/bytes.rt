@@ -15,7 +15,7 @@ use crate::records::Task;
 use crate::status::Status;
 
 // The byte at i, 0 past the end.
-fn byte(b: &[u8], i: u32) -> u8
+pub fn byte(b: &[u8], i: u32) -> u8
     ensures { λ res. ⌜ res ≡ getD (now (b .entry)) i 0 ⌝ }
 {
     let j = i as usize;

@@ -4,5 +4,7 @@
 pub mod bytes;
 pub mod numbers;
 pub mod places;
+pub mod priority;
 pub mod records;
 pub mod status;
+pub mod words;

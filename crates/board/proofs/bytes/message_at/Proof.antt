@@ -1,9 +1,6 @@
-use mathlib.Core.Path.{_≡_, sym, _∙_}
+use mathlib.Core.Path.{refl}
 use denote.Ref.{now}
-use Prim.Native.Nat.{_+_, _-_, _*_}
-use native.Mathlib.Omega.{arith}
-use Rattle.board.proofs.Pieces.{outside-zero, outside-above, within-outside}
-use Rattle.board.proofs.Reading.{message-outside, message-reads}
+use Rattle.board.proofs.Access.{message-beyond, message-reads}
 use borrow.Author.Needs.{needs}
 use Rattle.board.proofs.bytes.message_at.Statement.{statement}
 use Rattle.board.proofs.bytes.message_at.Tie as tie
@@ -28,7 +25,7 @@ none-requires c κs = search needs
 
 -- src/bytes.rt:110:9
 returns : tie.Need-returns
-returns c = c .none .ensures ∙ sym (message-outside (c .before .before .before .before .args .z) (now (c .before .before .before .before .args .b)) (c .before .before .before .before .args .m .0) (outside-zero (c .before .before .before .before .args .z .messages) (c .before .before .before .before .args .m .0) (sym (c .before .before .number .ensures) ∙ c .before .if1 .taken)))
+returns c = search needs
 
 -- src/bytes.rt:112:9
 cast-if2 : tie.Need-cast-if2
@@ -40,7 +37,10 @@ none-requires-2 c κs = search needs
 
 -- src/bytes.rt:113:9
 returns-2 : tie.Need-returns-2
-returns-2 c = c .none2 .ensures ∙ sym (message-outside (c .before .before .before .before .before .before .args .z) (now (c .before .before .before .before .before .before .args .b)) (c .before .before .before .before .before .before .args .m .0) (outside-above (c .before .before .before .before .before .before .args .z .messages) (c .before .before .before .before .before .before .args .m .0) (omega (arith, c .before .before .before .before .number .ensures))))
+returns-2 c =
+    let n = c .before .before .before .before in
+    let a = n .before .before .args in
+    message-beyond (a .z) (now (a .b)) (a .m .0) _ _ (n .number .ensures) (c .before .if2 .taken) (c .none2 .ensures)
 
 -- src/bytes.rt:115:19
 cast-o : tie.Need-cast-o
@@ -100,9 +100,14 @@ word-requires-3 c κs = search needs
 
 -- src/bytes.rt:105:1
 returns-3 : tie.Need-returns-3
-returns-3 c = message-reads (c .before .before .before .before .before .before .before .before .before .before .before .args .z) (now (c .before .before .before .before .before .before .before .before .before .before .before .args .b)) (c .before .before .before .before .before .before .before .before .before .before .before .args .m .0) (10 * c .before .before .before .before .before .before .before .before .before .before .before .args .z .tasks + c .before .before .before .before .before .before .before .before .before .number .result * 8 - 4) _ _ _ _ _
-    (within-outside (c .before .before .before .before .before .before .before .before .before .before .before .args .z .messages) (c .before .before .before .before .before .before .before .before .before .before .before .args .m .0) (omega (arith, c .before .before .before .before .before .before .before .before .before .number .ensures)) (omega (arith, c .before .before .before .before .before .before .before .before .before .number .ensures))) (omega (arith, c .before .before .before .before .before .before .before .before .before .number .ensures))
-    (c .before .before .before .before .byte .ensures) (c .before .before .before .byte2 .ensures) (c .before .before .word .ensures) (c .before .word2 .ensures) (c .word3 .ensures)
+returns-3 c =
+    let s = c .before .before .before .before in
+    let t = s .before .before in
+    let n = t .before .before .before in
+    let a = n .before .before .args in
+    message-reads (a .z) (now (a .b)) (a .m .0) _ _ _ _ _ _ _ (n .number .ensures) (t .before .before .if1 .left) (t .if2 .left)
+    refl (s .byte .ensures) (c .before .before .before .byte2 .ensures) (c .before .before .word .ensures)
+    (c .before .word2 .ensures) (c .word3 .ensures)
 
 pub message-at-spec : {M : Type 1} → statement M
 message-at-spec =

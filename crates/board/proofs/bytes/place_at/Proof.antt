@@ -1,9 +1,6 @@
-use mathlib.Core.Path.{_≡_, sym, _∙_}
+use mathlib.Core.Path.{refl}
 use denote.Ref.{now}
-use Prim.Native.Nat.{_+_, _-_, _*_}
-use native.Mathlib.Omega.{arith}
-use Rattle.board.proofs.Pieces.{outside-zero, outside-above, within-outside}
-use Rattle.board.proofs.Reading.{place-outside, place-reads}
+use Rattle.board.proofs.Access.{place-beyond, place-reads}
 use borrow.Author.Needs.{needs}
 use Rattle.board.proofs.bytes.place_at.Statement.{statement}
 use Rattle.board.proofs.bytes.place_at.Tie as tie
@@ -23,7 +20,7 @@ cast-n c = search needs
 
 -- src/bytes.rt:148:9
 returns : tie.Need-returns
-returns c = sym (place-outside (c .before .before .before .args .z) (now (c .before .before .before .args .b)) (c .before .before .before .args .m .0) (outside-zero (c .before .before .before .args .z .messages) (c .before .before .before .args .m .0) (sym (c .before .number .ensures) ∙ c .if1 .taken)))
+returns c = search needs
 
 -- src/bytes.rt:150:9
 cast-if2 : tie.Need-cast-if2
@@ -31,7 +28,10 @@ cast-if2 c = search needs
 
 -- src/bytes.rt:151:9
 returns-2 : tie.Need-returns-2
-returns-2 c = sym (place-outside (c .before .before .before .before .before .args .z) (now (c .before .before .before .before .before .args .b)) (c .before .before .before .before .before .args .m .0) (outside-above (c .before .before .before .before .before .args .z .messages) (c .before .before .before .before .before .args .m .0) (omega (arith, c .before .before .before .number .ensures))))
+returns-2 c =
+    let n = c .before .before .before in
+    let a = n .before .before .args in
+    place-beyond (a .z) (now (a .b)) (a .m .0) _ (n .number .ensures) (c .if2 .taken)
 
 -- src/bytes.rt:155:23
 cast-byte : tie.Need-cast-byte
@@ -71,8 +71,11 @@ of-requires c κs = search needs
 
 -- src/bytes.rt:143:1
 returns-3 : tie.Need-returns-3
-returns-3 c = place-reads (c .before .before .before .before .before .before .before .before .before .args .z) (now (c .before .before .before .before .before .before .before .before .before .args .b)) (c .before .before .before .before .before .before .before .before .before .args .m .0) (10 * c .before .before .before .before .before .before .before .before .before .args .z .tasks + 8 * c .before .before .before .before .before .before .before .before .before .args .z .messages + c .before .before .before .before .before .before .before .number .result + 3) _ _
-    (within-outside (c .before .before .before .before .before .before .before .before .before .args .z .messages) (c .before .before .before .before .before .before .before .before .before .args .m .0) (omega (arith, c .before .before .before .before .before .before .before .number .ensures)) (omega (arith, c .before .before .before .before .before .before .before .number .ensures))) (omega (arith, c .before .before .before .before .before .before .before .number .ensures))
+returns-3 c =
+    let t = c .before .before .before .before in
+    let n = t .before .before .before in
+    let a = n .before .before .args in
+    place-reads (a .z) (now (a .b)) (a .m .0) _ _ _ _ (n .number .ensures) (t .before .before .if1 .left) (t .if2 .left) refl
     (c .before .byte .ensures) (c .of .ensures)
 
 pub place-at-spec : {M : Type 1} → statement M

@@ -1,11 +1,8 @@
-use mathlib.Core.Path.{_≡_, sym, _∙_}
+use mathlib.Core.Path.{refl}
 use denote.Ref.{now}
-use Prim.Native.Nat.{_+_, _-_, _*_}
-use native.Mathlib.Omega.{arith}
 use Rattle.board.specs.Records.{messageBytes}
 use Rattle.board.specs.Board.{messageArea}
-use Rattle.board.proofs.Pieces.{outside-zero, outside-above, within-outside, putIn-outside}
-use Rattle.board.proofs.Storing.{message-stores}
+use Rattle.board.proofs.Access.{putIn-none, putIn-beyond, message-stores}
 use borrow.Author.Needs.{needs}
 use Rattle.board.proofs.bytes.put_message.Statement.{statement}
 use Rattle.board.proofs.bytes.put_message.Tie as tie
@@ -25,7 +22,10 @@ cast-n c = search needs
 
 -- src/bytes.rt:130:9
 returns : tie.Need-returns
-returns c = sym (putIn-outside (messageArea (c .before .before .before .args .z)) (now (c .before .before .before .args .b)) (c .before .before .before .args .m .0) (messageBytes (c .before .before .before .args .r)) (outside-zero (c .before .before .before .args .z .messages) (c .before .before .before .args .m .0) (sym (c .before .number .ensures) ∙ c .if1 .taken)))
+returns c =
+    let n = c .before in
+    let a = n .before .before .args in
+    putIn-none (messageArea (a .z)) (now (a .b)) (a .m .0) _ (messageBytes (a .r)) (n .number .ensures) (c .if1 .taken)
 
 -- src/bytes.rt:132:9
 cast-if2 : tie.Need-cast-if2
@@ -33,7 +33,10 @@ cast-if2 c = search needs
 
 -- src/bytes.rt:133:9
 returns-2 : tie.Need-returns-2
-returns-2 c = sym (putIn-outside (messageArea (c .before .before .before .before .before .args .z)) (now (c .before .before .before .before .before .args .b)) (c .before .before .before .before .before .args .m .0) (messageBytes (c .before .before .before .before .before .args .r)) (outside-above (c .before .before .before .before .before .args .z .messages) (c .before .before .before .before .before .args .m .0) (omega (arith, c .before .before .before .number .ensures))))
+returns-2 c =
+    let n = c .before .before .before in
+    let a = n .before .before .args in
+    putIn-beyond (messageArea (a .z)) (now (a .b)) (a .m .0) _ (messageBytes (a .r)) (n .number .ensures) (c .if2 .taken)
 
 -- src/bytes.rt:135:19
 cast-o : tie.Need-cast-o
@@ -97,10 +100,18 @@ same-length c = search needs
 
 -- src/bytes.rt:125:1
 returns-3 : tie.Need-returns-3
-returns-3 c = message-stores (c .before .before .before .before .before .before .before .before .before .before .before .before .before .before .before .before .before .before .before .before .before .before .before .before .before .before .args .z) (now (c .before .before .before .before .before .before .before .before .before .before .before .before .before .before .before .before .before .before .before .before .before .before .before .before .before .before .args .b)) (c .before .before .before .before .before .before .before .before .before .before .before .before .before .before .before .before .before .before .before .before .before .before .before .before .before .before .args .m .0) (10 * c .before .before .before .before .before .before .before .before .before .before .before .before .before .before .before .before .before .before .before .before .before .before .before .before .before .before .args .z .tasks + c .before .before .before .before .before .before .before .before .before .before .before .before .before .before .before .before .before .before .before .before .before .before .before .before .number .result * 8 - 4) (c .before .before .before .before .before .before .before .before .before .before .before .before .before .before .before .before .before .before .before .before .before .before .before .before .before .before .args .r) _ _ _ _ _
-    (within-outside (c .before .before .before .before .before .before .before .before .before .before .before .before .before .before .before .before .before .before .before .before .before .before .before .before .before .before .args .z .messages) (c .before .before .before .before .before .before .before .before .before .before .before .before .before .before .before .before .before .before .before .before .before .before .before .before .before .before .args .m .0) (omega (arith, c .before .before .before .before .before .before .before .before .before .before .before .before .before .before .before .before .before .before .before .before .before .before .before .before .number .ensures)) (omega (arith, c .before .before .before .before .before .before .before .before .before .before .before .before .before .before .before .before .before .before .before .before .before .before .before .before .number .ensures))) (omega (arith, c .before .before .before .before .before .before .before .before .before .before .before .before .before .before .before .before .before .before .before .before .before .before .before .before .number .ensures))
-    (c .before .before .before .before .before .before .before .before .before .before .before .before .before .before .before .before .before .before .put-byte .ensures) (c .before .before .before .before .before .before .before .before .before .before .before .before .before .before .put-byte2 .ensures)
-    (c .before .before .before .before .before .before .before .before .before .before .put-word .ensures) (c .before .before .before .before .before .before .put-word2 .ensures) (c .before .before .put-word3 .ensures)
+returns-3 c =
+    let sptr = c .before .before in
+    let rptr = sptr .before .before .before .before in
+    let link = rptr .before .before .before .before in
+    let prio = link .before .before .before .before in
+    let stat = prio .before .before .before .before in
+    let t = stat .before .before .before in
+    let n = t .before .before .before in
+    let a = n .before .before .args in
+    message-stores (a .z) (now (a .b)) (a .m .0) _ _ (a .r) _ _ _ _ _ (n .number .ensures) (t .before .before .if1 .left)
+    (t .if2 .left) refl (stat .put-byte .ensures) (prio .put-byte2 .ensures) (link .put-word .ensures) (rptr .put-word2 .ensures)
+    (sptr .put-word3 .ensures)
 
 pub put-message-spec : {M : Type 1} → statement M
 put-message-spec =

@@ -1,11 +1,8 @@
-use mathlib.Core.Path.{_≡_, sym, _∙_}
+use mathlib.Core.Path.{refl}
 use denote.Ref.{now}
-use Prim.Native.Nat.{_+_, _-_, _*_}
-use native.Mathlib.Omega.{arith}
 use Rattle.board.specs.Places.{placeBytes}
 use Rattle.board.specs.Board.{placeArea}
-use Rattle.board.proofs.Pieces.{outside-zero, outside-above, within-outside, putIn-outside}
-use Rattle.board.proofs.Storing.{place-stores}
+use Rattle.board.proofs.Access.{putIn-none, putIn-beyond, place-stores}
 use borrow.Author.Needs.{needs}
 use Rattle.board.proofs.bytes.put_place.Statement.{statement}
 use Rattle.board.proofs.bytes.put_place.Tie as tie
@@ -25,7 +22,10 @@ cast-n c = search needs
 
 -- src/bytes.rt:164:9
 returns : tie.Need-returns
-returns c = sym (putIn-outside (placeArea (c .before .before .before .args .z)) (now (c .before .before .before .args .b)) (c .before .before .before .args .m .0) (placeBytes (c .before .before .before .args .p)) (outside-zero (c .before .before .before .args .z .messages) (c .before .before .before .args .m .0) (sym (c .before .number .ensures) ∙ c .if1 .taken)))
+returns c =
+    let n = c .before in
+    let a = n .before .before .args in
+    putIn-none (placeArea (a .z)) (now (a .b)) (a .m .0) _ (placeBytes (a .p)) (n .number .ensures) (c .if1 .taken)
 
 -- src/bytes.rt:166:9
 cast-if2 : tie.Need-cast-if2
@@ -33,7 +33,10 @@ cast-if2 c = search needs
 
 -- src/bytes.rt:167:9
 returns-2 : tie.Need-returns-2
-returns-2 c = sym (putIn-outside (placeArea (c .before .before .before .before .before .args .z)) (now (c .before .before .before .before .before .args .b)) (c .before .before .before .before .before .args .m .0) (placeBytes (c .before .before .before .before .before .args .p)) (outside-above (c .before .before .before .before .before .args .z .messages) (c .before .before .before .before .before .args .m .0) (omega (arith, c .before .before .before .number .ensures))))
+returns-2 c =
+    let n = c .before .before .before in
+    let a = n .before .before .args in
+    putIn-beyond (placeArea (a .z)) (now (a .b)) (a .m .0) _ (placeBytes (a .p)) (n .number .ensures) (c .if2 .taken)
 
 -- src/bytes.rt:171:15
 cast-put-byte : tie.Need-cast-put-byte
@@ -77,9 +80,13 @@ same-length c = search needs
 
 -- src/bytes.rt:159:1
 returns-3 : tie.Need-returns-3
-returns-3 c = place-stores (c .before .before .before .before .before .before .before .before .before .before .before .before .args .z) (now (c .before .before .before .before .before .before .before .before .before .before .before .before .args .b)) (c .before .before .before .before .before .before .before .before .before .before .before .before .args .m .0) (10 * c .before .before .before .before .before .before .before .before .before .before .before .before .args .z .tasks + 8 * c .before .before .before .before .before .before .before .before .before .before .before .before .args .z .messages + c .before .before .before .before .before .before .before .before .before .before .number .result + 3) _ (c .before .before .before .before .before .before .before .before .before .before .before .before .args .p) _
-    (within-outside (c .before .before .before .before .before .before .before .before .before .before .before .before .args .z .messages) (c .before .before .before .before .before .before .before .before .before .before .before .before .args .m .0) (omega (arith, c .before .before .before .before .before .before .before .before .before .before .number .ensures)) (omega (arith, c .before .before .before .before .before .before .before .before .before .before .number .ensures))) (omega (arith, c .before .before .before .before .before .before .before .before .before .before .number .ensures))
-    (c .before .before .before .byte .ensures) (c .before .before .put-byte .ensures)
+returns-3 c =
+    let s = c .before .before in
+    let t = s .before .before .before .before .before in
+    let n = t .before .before .before in
+    let a = n .before .before .args in
+    place-stores (a .z) (now (a .b)) (a .m .0) _ _ _ (a .p) _ (n .number .ensures) (t .before .before .if1 .left) (t .if2 .left)
+    refl (s .before .byte .ensures) (s .put-byte .ensures)
 
 pub put-place-spec : {M : Type 1} → statement M
 put-place-spec =

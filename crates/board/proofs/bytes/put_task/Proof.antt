@@ -1,11 +1,8 @@
-use mathlib.Core.Path.{_≡_, sym, _∙_}
+use mathlib.Core.Path.{refl}
 use denote.Ref.{now}
-use Prim.Native.Nat.{_+_, _-_, _*_}
-use native.Mathlib.Omega.{arith}
 use Rattle.board.specs.Records.{taskBytes}
 use Rattle.board.specs.Board.{taskArea}
-use Rattle.board.proofs.Pieces.{outside-zero, outside-above, within-outside, putIn-outside}
-use Rattle.board.proofs.Storing.{task-stores}
+use Rattle.board.proofs.Access.{putIn-none, putIn-beyond, task-stores}
 use borrow.Author.Needs.{needs}
 use Rattle.board.proofs.bytes.put_task.Statement.{statement}
 use Rattle.board.proofs.bytes.put_task.Tie as tie
@@ -26,7 +23,10 @@ cast-n c = search needs
 
 -- src/bytes.rt:90:9
 returns : tie.Need-returns
-returns c = sym (putIn-outside (taskArea (c .before .before .before .args .z)) (now (c .before .before .before .args .b)) (c .before .before .before .args .k .0) (taskBytes (c .before .before .before .args .t)) (outside-zero (c .before .before .before .args .z .tasks) (c .before .before .before .args .k .0) (sym (c .before .number .ensures) ∙ c .if1 .taken)))
+returns c =
+    let n = c .before in
+    let a = n .before .before .args in
+    putIn-none (taskArea (a .z)) (now (a .b)) (a .k .0) _ (taskBytes (a .t)) (n .number .ensures) (c .if1 .taken)
 
 -- src/bytes.rt:92:9
 cast-if2 : tie.Need-cast-if2
@@ -34,7 +34,10 @@ cast-if2 c = search needs
 
 -- src/bytes.rt:93:9
 returns-2 : tie.Need-returns-2
-returns-2 c = sym (putIn-outside (taskArea (c .before .before .before .before .before .args .z)) (now (c .before .before .before .before .before .args .b)) (c .before .before .before .before .before .args .k .0) (taskBytes (c .before .before .before .before .before .args .t)) (outside-above (c .before .before .before .before .before .args .z .tasks) (c .before .before .before .before .before .args .k .0) (omega (arith, c .before .before .before .number .ensures))))
+returns-2 c =
+    let n = c .before .before .before in
+    let a = n .before .before .args in
+    putIn-beyond (taskArea (a .z)) (now (a .b)) (a .k .0) _ (taskBytes (a .t)) (n .number .ensures) (c .if2 .taken)
 
 -- src/bytes.rt:95:13
 mul-o : tie.Need-mul-o
@@ -98,10 +101,19 @@ same-length c = search needs
 
 -- src/bytes.rt:85:1
 returns-3 : tie.Need-returns-3
-returns-3 c = task-stores (c .before .before .before .before .before .before .before .before .before .before .before .before .before .before .before .before .before .before .before .before .before .before .before .before .before .before .before .before .before .before .before .args .z) (now (c .before .before .before .before .before .before .before .before .before .before .before .before .before .before .before .before .before .before .before .before .before .before .before .before .before .before .before .before .before .before .before .args .b)) (c .before .before .before .before .before .before .before .before .before .before .before .before .before .before .before .before .before .before .before .before .before .before .before .before .before .before .before .before .before .before .before .args .k .0) (c .before .before .before .before .before .before .before .before .before .before .before .before .before .before .before .before .before .before .before .before .before .before .before .before .before .before .before .before .before .number .result * 10 - 6) _ (c .before .before .before .before .before .before .before .before .before .before .before .before .before .before .before .before .before .before .before .before .before .before .before .before .before .before .before .before .before .before .before .args .t) _ _ _ _ _ _
-    (within-outside (c .before .before .before .before .before .before .before .before .before .before .before .before .before .before .before .before .before .before .before .before .before .before .before .before .before .before .before .before .before .before .before .args .z .tasks) (c .before .before .before .before .before .before .before .before .before .before .before .before .before .before .before .before .before .before .before .before .before .before .before .before .before .before .before .before .before .before .before .args .k .0) (omega (arith, c .before .before .before .before .before .before .before .before .before .before .before .before .before .before .before .before .before .before .before .before .before .before .before .before .before .before .before .before .before .number .ensures)) (omega (arith, c .before .before .before .before .before .before .before .before .before .before .before .before .before .before .before .before .before .before .before .before .before .before .before .before .before .before .before .before .before .number .ensures))) (omega (arith, c .before .before .before .before .before .before .before .before .before .before .before .before .before .before .before .before .before .before .before .before .before .before .before .before .before .before .before .before .before .number .ensures))
-    (c .before .before .before .before .before .before .before .before .before .before .before .before .before .before .before .before .before .before .before .before .before .before .before .byte .ensures) (c .before .before .before .before .before .before .before .before .before .before .before .before .before .before .before .before .before .before .before .before .before .before .put-byte .ensures) (c .before .before .before .before .before .before .before .before .before .before .before .before .before .before .before .before .before .before .put-byte2 .ensures)
-    (c .before .before .before .before .before .before .before .before .before .before .before .before .before .before .put-word .ensures) (c .before .before .before .before .before .before .before .before .before .before .put-word2 .ensures) (c .before .before .before .before .before .before .put-word3 .ensures) (c .before .before .put-word4 .ensures)
+returns-3 c =
+    let name = c .before .before in
+    let sptr = name .before .before .before .before in
+    let mptr = sptr .before .before .before .before in
+    let link = mptr .before .before .before .before in
+    let prio = link .before .before .before .before in
+    let stat = prio .before .before .before .before in
+    let t = stat .before .before .before .before in
+    let n = t .before .before .before in
+    let a = n .before .before .args in
+    task-stores (a .z) (now (a .b)) (a .k .0) _ _ _ (a .t) _ _ _ _ _ _ (n .number .ensures) (t .before .before .if1 .left)
+    (t .if2 .left) refl (stat .before .byte .ensures) (stat .put-byte .ensures) (prio .put-byte2 .ensures)
+    (link .put-word .ensures) (mptr .put-word2 .ensures) (sptr .put-word3 .ensures) (name .put-word4 .ensures)
 
 pub put-task-spec : {M : Type 1} → statement M
 put-task-spec =

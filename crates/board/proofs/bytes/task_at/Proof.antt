@@ -1,9 +1,6 @@
-use mathlib.Core.Path.{_≡_, sym, _∙_}
+use mathlib.Core.Path.{refl}
 use denote.Ref.{now}
-use Prim.Native.Nat.{_+_, _-_, _*_}
-use native.Mathlib.Omega.{arith}
-use Rattle.board.proofs.Pieces.{outside-zero, outside-above, within-outside}
-use Rattle.board.proofs.Reading.{task-outside, task-reads}
+use Rattle.board.proofs.Access.{task-beyond, task-reads}
 use borrow.Author.Needs.{needs}
 use Rattle.board.proofs.bytes.task_at.Statement.{statement}
 use Rattle.board.proofs.bytes.task_at.Tie as tie
@@ -29,7 +26,7 @@ none-requires c κs = search needs
 
 -- src/bytes.rt:69:9
 returns : tie.Need-returns
-returns c = c .none .ensures ∙ sym (task-outside (c .before .before .before .before .args .z) (now (c .before .before .before .before .args .b)) (c .before .before .before .before .args .k .0) (outside-zero (c .before .before .before .before .args .z .tasks) (c .before .before .before .before .args .k .0) (sym (c .before .before .number .ensures) ∙ c .before .if1 .taken)))
+returns c = search needs
 
 -- src/bytes.rt:71:9
 cast-if2 : tie.Need-cast-if2
@@ -41,7 +38,10 @@ none-requires-2 c κs = search needs
 
 -- src/bytes.rt:72:9
 returns-2 : tie.Need-returns-2
-returns-2 c = c .none2 .ensures ∙ sym (task-outside (c .before .before .before .before .before .before .args .z) (now (c .before .before .before .before .before .before .args .b)) (c .before .before .before .before .before .before .args .k .0) (outside-above (c .before .before .before .before .before .before .args .z .tasks) (c .before .before .before .before .before .before .args .k .0) (omega (arith, c .before .before .before .before .number .ensures))))
+returns-2 c =
+    let n = c .before .before .before .before in
+    let a = n .before .before .args in
+    task-beyond (a .z) (now (a .b)) (a .k .0) _ _ (n .number .ensures) (c .before .if2 .taken) (c .none2 .ensures)
 
 -- src/bytes.rt:74:13
 mul-o : tie.Need-mul-o
@@ -101,9 +101,15 @@ word-requires-4 c κs = search needs
 
 -- src/bytes.rt:64:1
 returns-3 : tie.Need-returns-3
-returns-3 c = task-reads (c .before .before .before .before .before .before .before .before .before .before .before .before .args .z) (now (c .before .before .before .before .before .before .before .before .before .before .before .before .args .b)) (c .before .before .before .before .before .before .before .before .before .before .before .before .args .k .0) (c .before .before .before .before .before .before .before .before .before .before .number .result * 10 - 6) _ _ _ _ _ _ _
-    (within-outside (c .before .before .before .before .before .before .before .before .before .before .before .before .args .z .tasks) (c .before .before .before .before .before .before .before .before .before .before .before .before .args .k .0) (omega (arith, c .before .before .before .before .before .before .before .before .before .before .number .ensures)) (omega (arith, c .before .before .before .before .before .before .before .before .before .before .number .ensures))) (omega (arith, c .before .before .before .before .before .before .before .before .before .before .number .ensures))
-    (c .before .before .before .before .before .stored .ensures) (c .before .before .before .before .before .before .byte .ensures) (c .before .before .before .before .byte2 .ensures) (c .before .before .before .word .ensures) (c .before .before .word2 .ensures) (c .before .word3 .ensures) (c .word4 .ensures)
+returns-3 c =
+    let s = c .before .before .before .before .before .before in
+    let t = s .before in
+    let n = t .before .before .before in
+    let a = n .before .before .args in
+    task-reads (a .z) (now (a .b)) (a .k .0) _ _ _ _ _ _ _ _ _ (n .number .ensures) (t .before .before .if1 .left) (t .if2 .left)
+    refl (s .byte .ensures) (c .before .before .before .before .before .stored .ensures)
+    (c .before .before .before .before .byte2 .ensures) (c .before .before .before .word .ensures)
+    (c .before .before .word2 .ensures) (c .before .word3 .ensures) (c .word4 .ensures)
 
 pub task-at-spec : {M : Type 1} → statement M
 task-at-spec =

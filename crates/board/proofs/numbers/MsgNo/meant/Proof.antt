@@ -7,15 +7,21 @@ use Rattle.board.proofs.numbers.MsgNo.meant.Lts as lts
 
 -- src/numbers.rt:62:13
 returns : tie.Need-returns
-returns c = rw (outside-zero (c .before .args .z .messages) (c .before .args .w) (c .if1 .taken))
+returns c =
+    let a = c .before .args in
+    rw (outside-zero (a .z .messages) (a .w) (c .if1 .taken))
 
 -- src/numbers.rt:65:13
 returns-2 : tie.Need-returns-2
-returns-2 c = rw (outside-above (c .before .before .before .args .z .messages) (c .before .before .before .args .w) (c .if2 .taken))
+returns-2 c =
+    let a = c .before .before .before .args in
+    rw (outside-above (a .z .messages) (a .w) (c .if2 .taken))
 
 -- src/numbers.rt:58:5
 returns-3 : tie.Need-returns-3
-returns-3 c = rw (within-outside (c .before .before .before .args .z .messages) (c .before .before .before .args .w) (omega arith) (c .if2 .left))
+returns-3 c =
+    let a = c .before .before .before .args in
+    rw (within-outside (a .z .messages) (a .w) (omega arith) (c .if2 .left))
 
 pub meant-spec : {M : Type 1} → statement M
 meant-spec = tie.close (tie.spec returns returns-2 returns-3)

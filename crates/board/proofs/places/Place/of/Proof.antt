@@ -1,6 +1,6 @@
 use mathlib.Core.Path.{sym, _∙_}
 use Rattle.board.proofs.Codec.{place-free}
-use Rattle.board.proofs.Reading.{placeOf-holder, placeOf-low, placeOf-none, placeOf-receiver}
+use Rattle.board.proofs.Access.{placeOf-holder, placeOf-low, placeOf-none, placeOf-receiver}
 use borrow.Author.Needs.{needs}
 use Rattle.board.proofs.places.Place.of.Statement.{statement}
 use Rattle.board.proofs.places.Place.of.Tie as tie
@@ -10,7 +10,9 @@ use Rattle.board.proofs.numbers.TaskNo.meant.Reads as meant-reads
 
 -- src/places.rt:22:13
 returns : tie.Need-returns
-returns c = sym (place-free (c .before .args .z) (c .before .args .p) (c .if1 .taken))
+returns c =
+    let a = c .before .args in
+    sym (place-free (a .z) (a .p) (c .if1 .taken))
 
 -- src/places.rt:24:13
 meant-requires : tie.Need-meant-requires
@@ -22,14 +24,21 @@ enum-known-holder c = search needs
 
 -- src/places.rt:26:13
 returns-2 : tie.Need-returns-2
-returns-2 c = sym (placeOf-holder (c .before .before .before .before .before .args .z) (c .before .before .before .before .before .args .p) _ (sym (c .before .before .before .meant .ensures) ∙ c .before .holder .given .1))
+returns-2 c =
+    let m = c .before .before .before in
+    let a = m .before .before .args in
+    sym (placeOf-holder (a .z) (a .p) _ (sym (m .meant .ensures) ∙ c .before .holder .given .1))
 
 enum-told : tie.Need-enum-told
 enum-told c = search needs
 
 -- src/places.rt:29:13
 returns-3 : tie.Need-returns-3
-returns-3 c = sym (placeOf-low (c .before .before .before .before .before .args .z) (c .before .before .before .before .before .args .p) (c .before .before .before .before .if1 .left) (sym (c .before .before .before .meant .ensures) ∙ c .before .enum-told .given .1) (c .if2 .taken))
+returns-3 c =
+    let m = c .before .before .before in
+    let a = m .before .before .args in
+    sym
+    (placeOf-low (a .z) (a .p) (m .before .if1 .left) (sym (m .meant .ensures) ∙ c .before .enum-told .given .1) (c .if2 .taken))
 
 -- src/places.rt:31:41
 cast-meant : tie.Need-cast-meant
@@ -49,13 +58,23 @@ enum-told-2 c = search needs
 
 -- src/places.rt:33:13
 returns-4 : tie.Need-returns-4
-returns-4 c = sym (placeOf-none (c .before .before .before .before .before .before .before .before .args .z) (c .before .before .before .before .before .before .before .before .args .p) (c .before .before .before .before .before .before .before .if1 .left) (sym (c .before .before .before .before .before .before .meant .ensures) ∙ c .before .before .before .before .enum-told .given .1)
-    (sym (c .before .before .meant2 .ensures) ∙ c .enum-told2 .given .1))
+returns-4 c =
+    let n = c .before .before in
+    let m = n .before .before .before .before in
+    let a = m .before .before .args in
+    sym
+    (placeOf-none (a .z) (a .p) (m .before .if1 .left) (sym (m .meant .ensures) ∙ n .before .before .enum-told .given .1)
+    (sym (n .meant2 .ensures) ∙ c .enum-told2 .given .1))
 
 -- src/places.rt:18:5
 returns-5 : tie.Need-returns-5
-returns-5 c = sym (placeOf-receiver (c .before .before .before .before .before .before .before .before .before .args .z) (c .before .before .before .before .before .before .before .before .before .args .p) _ (c .before .before .before .before .before .before .before .before .if1 .left) (sym (c .before .before .before .before .before .before .before .meant .ensures) ∙ c .before .before .before .before .before .enum-told .given .1)
-    (sym (c .before .before .before .meant2 .ensures) ∙ c .before .receiver .given .1))
+returns-5 c =
+    let n = c .before .before .before in
+    let m = n .before .before .before .before in
+    let a = m .before .before .args in
+    sym
+    (placeOf-receiver (a .z) (a .p) _ (m .before .if1 .left) (sym (m .meant .ensures) ∙ n .before .before .enum-told .given .1)
+    (sym (n .meant2 .ensures) ∙ c .before .receiver .given .1))
 
 pub of-spec : {M : Type 1} → statement M
 of-spec =

@@ -17,7 +17,9 @@ has-requires c κs = search needs
 
 -- src/status.rt:64:17
 returns : tie.Need-returns
-returns c = rw (sym (c .before .before .before .present .ensures) ∙ c .before .before .if1 .taken, sym (c .before .has .ensures) ∙ c .if2 .taken)
+returns c =
+    let p = c .before .before in
+    rw (sym (p .before .present .ensures) ∙ p .if1 .taken, sym (c .before .has .ensures) ∙ c .if2 .taken)
 
 -- src/status.rt:66:21
 has-requires-2 : tie.Need-has-requires-2
@@ -25,7 +27,10 @@ has-requires-2 c κs = search needs
 
 -- src/status.rt:66:13
 returns-2 : tie.Need-returns-2
-returns-2 c = rw (← c .has2 .ensures, sym (c .before .before .before .before .present .ensures) ∙ c .before .before .before .if1 .taken, sym (c .before .before .has .ensures) ∙ c .before .if2 .left)
+returns-2 c =
+    let w = c .before in
+    let p = w .before .before in
+    rw (← c .has2 .ensures, sym (p .before .present .ensures) ∙ p .if1 .taken, sym (w .before .has .ensures) ∙ w .if2 .left)
 
 -- src/status.rt:59:5
 returns-3 : tie.Need-returns-3

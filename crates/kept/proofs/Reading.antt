@@ -1,0 +1,375 @@
+-- What is read of a board after one change, for every number, and what then stays as it was; what the walks visit and who runs;
+-- what a row that refuses nothing says.
+-- Assumes nothing.
+use mathlib.Core.Path.{_≡_, refl, sym, ap, _∙_, subst}
+use mathlib.Core.Logic.{_≢_, _⊎_, inl, inr, _↔_}
+use mathlib.Core.Bool.{Bool, true, false, not, _&&_, _||_, cond, true≢false}
+use mathlib.Core.List.{List, [], _∷_}
+use Prim.Native.Nat.{ℕ, zero, suc, _-_, _≤_}
+use native.Mathlib.Omega.{arith}
+use lib.Dec.{ltb}
+use lib.ListN.{length, getD, set}
+use borrow.Author.Tests.{ltb-true, ltb-false, eqb-true, eqb-false, not-true, not-false}
+use Rattle.links.specs.Queue.{firstOf, firstWith, which, relink}
+use Rattle.links.specs.Chain.{In, All, Sorted, Chain}
+use Rattle.links.proofs.Bools.{both}
+use Rattle.links.proofs.Members.{all-of, all-at, pigeon}
+use Rattle.links.proofs.Chains.{chain-frame, chain-once, chain-walk}
+use Rattle.links.proofs.Exactly.{in-which, which-in}
+use Rattle.board.specs.declared.numbers.Size.{Size}
+use Rattle.board.specs.declared.status.Status.{Status}
+use Rattle.board.specs.declared.records.Task.{Task}
+use Rattle.board.specs.declared.records.Message.{Message}
+use Rattle.board.specs.declared.places.Place.{Place}
+use Rattle.board.specs.declared.places.Place.the-variants.{Free, HeldBy, QueuedAt, Nowhere}
+use Rattle.board.specs.Numbers.{outside, taskNo}
+use Rattle.board.specs.Status.{WAIT, IWAT, has, isPresent}
+use Rattle.board.specs.Records.{noTask, noMessage}
+use Rattle.board.specs.Places.{placeOf, placeByte, isFree, isHeldBy}
+use Rattle.board.specs.Board.{Board, nth, put, task, message, place, withFirst, withTask, withMessage, withPlace}
+use Rattle.board.proofs.Numbered.{nth-put, nth-put-other, nth-beyond, nth-alike, length-put}
+use Rattle.board.proofs.Pieces.{outside-within}
+use Rattle.paper.specs.Rules.{isThere, present, nextTask, nextMessage, order, queue, ready, running}
+use Rattle.paper.specs.Refusals.{Test, no3, no4, no5, no6, Verdict, Go, Stop, lowest}
+use Rattle.linked.specs.Linked.{Listing, Numbered}
+use Rattle.linked.specs.Sound.{Proper, Kept}
+use Rattle.kept.specs.Stands.{Byte, FitsTask, FitsMessage, Fits, Stands}
+
+-- ---- a choice
+-- what holds of both choices holds of the one taken
+pub cond-holds : {A : Type 0} (P : A → Type 0) (t : Bool) (x y : A) → (t ≡ true → P x) → (t ≡ false → P y) → P (cond t x y)
+cond-holds P true x y h g = h refl
+cond-holds P false x y h g = g refl
+
+-- ---- one record written, of any kind
+getD-cases : {A : Type 0} (P : A → Type 0) (none : A) (l : List A) (k j : ℕ) (x : A) → (j ≡ k → P x) → P (getD l j none)
+    → P (getD (set l k x) j none)
+getD-cases P none [] k j x h g = g
+getD-cases P none (y ∷ l) zero zero x h g = h refl
+getD-cases P none (y ∷ l) zero (suc j) x h g = g
+getD-cases P none (y ∷ l) (suc k) zero x h g = g
+getD-cases P none (y ∷ l) (suc k) (suc j) x h g = getD-cases P none l k j x (λ e. h (ap suc e)) g
+
+-- what holds of the new record, and held of each, holds of each
+pub nth-cases : {A : Type 0} (P : A → Type 0) (none : A) (l : List A) (k j : ℕ) (x : A) → (j ≡ k → P x) → P (nth none l j)
+    → P (nth none (put l k x) j)
+nth-cases P none l zero j x h g = g
+nth-cases P none l (suc k) zero x h g = g
+nth-cases P none l (suc k) (suc j) x h g = getD-cases P none l k j x (λ e. h (ap suc e)) g
+
+-- a number whose record isn't none is one of the list's
+pub nth-numbered : {A : Type 0} (none : A) (l : List A) (k : ℕ) → nth none l k ≢ none → Numbered (length l) k
+nth-numbered none l zero h = absurd (h refl)
+nth-numbered none l (suc i) h = step (ltb (length l) (suc i)) refl
+  where
+    step : (t : Bool) → ltb (length l) (suc i) ≡ t → Numbered (length l) (suc i)
+    step true e = absurd (h (nth-beyond none l (suc i) (ltb-true (length l) (suc i) e)))
+    step false e = (omega arith, ltb-false (length l) (suc i) e)
+
+-- ---- one task written
+-- it reads back
+pub task-put : (b : Board) (k : ℕ) (t : Task) → Numbered (length (b .tasks)) k → task (withTask b k t) k ≡ t
+task-put b k t h = nth-put noTask (b .tasks) k t (h .0) (h .1)
+
+-- others read as before
+pub task-other : (b : Board) (k j : ℕ) (t : Task) → j ≢ k → task (withTask b k t) j ≡ task b j
+task-other b k j t h = nth-put-other noTask (b .tasks) k j t h
+
+-- what it has in common with the old one, each has as before
+pub task-alike : {A : Type 0} (f : Task → A) (b : Board) (k j : ℕ) (t : Task) → f t ≡ f (task b k)
+    → f (task (withTask b k t) j) ≡ f (task b j)
+task-alike f b k j t e = nth-alike f noTask (b .tasks) k j t e
+
+-- a present task is numbered
+pub present-numbered : (b : Board) (k : ℕ) → present b k ≡ true → Numbered (length (b .tasks)) k
+present-numbered b k p = nth-numbered noTask (b .tasks) k (λ e. true≢false (sym p ∙ ap isThere e))
+
+-- ---- one message written, one place written
+-- it reads back
+pub message-put : (b : Board) (m : ℕ) (r : Message) → Numbered (length (b .messages)) m → message (withMessage b m r) m ≡ r
+message-put b m r h = nth-put noMessage (b .messages) m r (h .0) (h .1)
+
+-- others read as before
+pub message-other : (b : Board) (m j : ℕ) (r : Message) → j ≢ m → message (withMessage b m r) j ≡ message b j
+message-other b m j r h = nth-put-other noMessage (b .messages) m j r h
+
+-- what it has in common with the old one, each has as before
+pub message-alike : {A : Type 0} (f : Message → A) (b : Board) (m j : ℕ) (r : Message) → f r ≡ f (message b m)
+    → f (message (withMessage b m r) j) ≡ f (message b j)
+message-alike f b m j r e = nth-alike f noMessage (b .messages) m j r e
+
+-- a place reads back
+pub place-put : (b : Board) (m : ℕ) (p : Place) → Numbered (length (b .places)) m → place (withPlace b m p) m ≡ p
+place-put b m p h = nth-put Free (b .places) m p (h .0) (h .1)
+
+-- others read as before
+pub place-other : (b : Board) (m j : ℕ) (p : Place) → j ≢ m → place (withPlace b m p) j ≡ place b j
+place-other b m j p h = nth-put-other Free (b .places) m j p h
+
+-- a message that isn't free is numbered
+pub placed-numbered : (b : Board) (m : ℕ) → place b m ≢ Free → Numbered (length (b .places)) m
+placed-numbered b m h = nth-numbered Free (b .places) m h
+
+-- held is not free
+pub held-placed : (b : Board) (m k : ℕ) → place b m ≡ HeldBy (taskNo k) → place b m ≢ Free
+held-placed b m k e h = true≢false (sym (ap isFree h) ∙ ap isFree e)
+
+-- queued is not free
+pub queued-placed : (b : Board) (m k : ℕ) → place b m ≡ QueuedAt (taskNo k) → place b m ≢ Free
+queued-placed b m k e h = true≢false (sym (ap isFree h) ∙ ap isFree e)
+
+-- ---- the board still fits
+-- a place that its byte says
+abbrev pub FitsPlace : Size → Place → Type 0
+FitsPlace z p = Byte (placeByte p) × (placeOf z (placeByte p) ≡ p)
+
+module _ (z : Size) (b : Board) (f : Fits z b) where
+  -- byte 0 written
+  pub fits-first : (x : ℕ) → Byte x → Fits z (withFirst b x)
+  fits-first x h = record {
+    first = h;
+    zeros = f .zeros;
+    tasks = f .tasks;
+    messages = f .messages;
+    places = f .places;
+    task = f .task;
+    message = f .message;
+    place = f .place;
+  }
+
+  -- a task written
+  pub fits-task : (k : ℕ) (t : Task) → FitsTask t → Fits z (withTask b k t)
+  fits-task k t h = record {
+    first = f .first;
+    zeros = f .zeros;
+    tasks = length-put (b .tasks) k t ∙ f .tasks;
+    messages = f .messages;
+    places = f .places;
+    task = λ j. nth-cases FitsTask noTask (b .tasks) k j t (λ e. h) (f .task j);
+    message = f .message;
+    place = f .place;
+  }
+
+  -- a message written
+  pub fits-message : (m : ℕ) (r : Message) → FitsMessage r → Fits z (withMessage b m r)
+  fits-message m r h = record {
+    first = f .first;
+    zeros = f .zeros;
+    tasks = f .tasks;
+    messages = length-put (b .messages) m r ∙ f .messages;
+    places = f .places;
+    task = f .task;
+    message = λ j. nth-cases FitsMessage noMessage (b .messages) m j r (λ e. h) (f .message j);
+    place = f .place;
+  }
+
+  -- a place written
+  pub fits-place : (m : ℕ) (p : Place) → FitsPlace z p → Fits z (withPlace b m p)
+  fits-place m p h = record {
+    first = f .first;
+    zeros = f .zeros;
+    tasks = f .tasks;
+    messages = f .messages;
+    places = length-put (b .places) m p ∙ f .places;
+    task = f .task;
+    message = f .message;
+    place = λ j. nth-cases (FitsPlace z) Free (b .places) m j p (λ e. h) (f .place j);
+  }
+
+-- ---- the links of a queue written
+-- what each link keeps, they keep
+pub relink-keeps : {B A : Type 0} (f : B → A) (link : B → ℕ → ℕ → B) → ((c : B) (x y : ℕ) → f (link c x y) ≡ f c)
+    → (b : B) (q : List ℕ) → f (relink link b q) ≡ f b
+relink-keeps f link h b [] = refl
+relink-keeps f link h b (x ∷ q) = h (relink link b q) x (firstOf q) ∙ relink-keeps f link h b q
+
+-- the first of numbers that pass, and that 0 passes with
+pub first-holds : (Q : ℕ → Type 0) (q : List ℕ) → Q 0 → All Q q → Q (firstOf q)
+first-holds Q [] o a = o
+first-holds Q (x ∷ q) o a = a .0
+
+-- what each link to such a number upholds, they uphold
+pub relink-holds : {B : Type 0} (P : B → Type 0) (Q : ℕ → Type 0) (link : B → ℕ → ℕ → B)
+    → ((c : B) (x y : ℕ) → Q y → P c → P (link c x y)) → (b : B) (q : List ℕ) → Q 0 → All Q q → P b → P (relink link b q)
+relink-holds P Q link h b [] o a p = p
+relink-holds P Q link h b (x ∷ q) o a p =
+    h (relink link b q) x (firstOf q) (first-holds Q q o (a .1)) (relink-holds P Q link h b q o (a .1) p)
+
+-- ---- a queue that stays
+-- priority numbers matter at the members only
+pub sorted-stays : (f g : ℕ → ℕ) (q : List ℕ) → ((y : ℕ) → In y q → g y ≡ f y) → Sorted f q → Sorted g q
+sorted-stays f g [] h s = tt
+sorted-stays f g (x ∷ q) h s = (
+  all-of _ q (λ y i. rw (h x (inl refl), h y (inr i)) (all-at (λ y. f x ≤ f y) q (s .0) y i)),
+  sorted-stays f g q (λ y i. h y (inr i)) (s .1),
+)
+
+-- links and priority numbers that are the same at the members list the same queue
+pub listing-stays : (f g number sort : ℕ → ℕ) (x : ℕ) (q : List ℕ) (M N : ℕ → Type 0) → ((y : ℕ) → In y q → g y ≡ f y)
+    → ((y : ℕ) → In y q → sort y ≡ number y) → ((y : ℕ) → M y ↔ N y) → Listing f number x q M → Listing g sort x q N
+listing-stays f g number sort x q M N h s e l = record {
+  chain = chain-frame f g x q h (l .chain);
+  exact = λ y. ((λ i. e y .0 (l .exact y .0 i)), λ n. l .exact y .1 (e y .1 n));
+  sorted = sorted-stays number sort q s (l .sorted);
+}
+
+-- so does the same start
+pub listing-start : (f number : ℕ → ℕ) (x y : ℕ) (q : List ℕ) (M : ℕ → Type 0) → y ≡ x → Listing f number x q M
+    → Listing f number y q M
+listing-start f number x y q M e l =
+    record { chain = subst (λ (n : ℕ). Chain f n q) (sym e) (l .chain); exact = l .exact; sorted = l .sorted }
+
+-- ---- a task that R2 lets be
+abbrev pub Lawful : Task → Type 0
+Lawful t = (t ≡ noTask) ⊎ Proper t
+
+-- a present one is proper
+pub present-proper : (t : Task) → Lawful t → isThere t ≡ true → Proper t
+present-proper t (inl e) p = absurd (true≢false (sym p ∙ ap isThere e))
+present-proper t (inr h) p = h
+
+-- an absent one is none
+pub absent-none : (t : Task) → Lawful t → isThere t ≡ false → t ≡ noTask
+absent-none t (inl e) p = e
+absent-none t (inr h) p = absurd (true≢false (sym (h .there) ∙ p))
+
+-- ---- a message that stays
+-- the same record, and its task still present
+pub kept-stays : (z : Size) (b c : Board) (m : ℕ) (p : Place) → message c m ≡ message b m
+    → ((k : ℕ) → (p ≡ HeldBy (taskNo k)) ⊎ (p ≡ QueuedAt (taskNo k)) → present b k ≡ true → present c k ≡ true)
+    → Kept z b m p → Kept z c m p
+kept-stays z b c m Free e h k = e ∙ k
+kept-stays z b c m (HeldBy k) e h (p, l, t) = rw e (p, l, h (k .0) (inl refl) t)
+kept-stays z b c m (QueuedAt k) e h (p, f, l, t) = rw e (p, f, l, h (k .0) (inr refl) t)
+kept-stays z b c m (Nowhere p) e h k = k
+
+-- ---- the first that passes a test
+-- the first of a queue
+pub first-with : (f : ℕ → Bool) (q : List ℕ) → firstWith f q ≢ 0 → In (firstWith f q) q × (f (firstWith f q) ≡ true)
+first-with f [] h = absurd (h refl)
+first-with f (x ∷ q) h = step (f x) refl (first-with f q)
+  where
+    step : (t : Bool) → f x ≡ t → (firstWith f q ≢ 0 → In (firstWith f q) q × (f (firstWith f q) ≡ true))
+        → In (firstWith f (x ∷ q)) (x ∷ q) × (f (firstWith f (x ∷ q)) ≡ true)
+    step true e ih = rw (e, firstWith) (inl refl, e)
+    step false e ih = let r = ih (rw (e, firstWith) at h) in rw (e, firstWith) (inr (r .0), r .1)
+
+nth-behind : {A : Type 0} (none : A) (l : List A) (k : ℕ) → 1 ≤ k → getD l (k - 1) none ≡ nth none l k
+nth-behind none l zero h = absurd (omega arith)
+nth-behind none l (suc i) h = let e : suc i - 1 ≡ i = omega arith in ap (λ (j : ℕ). getD l j none) e
+
+-- the first of a list, by its number
+pub which-first : {A : Type 0} (none : A) (f : A → Bool) (l : List A) → firstOf (which f 1 l) ≢ 0
+    → Numbered (length l) (firstOf (which f 1 l)) × (f (nth none l (firstOf (which f 1 l))) ≡ true)
+which-first none f l h = step (which f 1 l) refl h
+  where
+    step : (q : List ℕ) → which f 1 l ≡ q → firstOf q ≢ 0 → Numbered (length l) (firstOf q) × (f (nth none l (firstOf q)) ≡ true)
+    step [] e h = absurd (h refl)
+    step (x ∷ q) e h =
+        let r = in-which none f 1 x l (rw e (inl refl)) in
+        ((r .0, omega (arith, r .1)), ap f (sym (nth-behind none l x (r .0))) ∙ r .2)
+
+-- where there is none, none passes
+pub which-none : {A : Type 0} (none : A) (f : A → Bool) (l : List A) → firstOf (which f 1 l) ≡ 0
+    → (k : ℕ) → Numbered (length l) k → f (nth none l k) ≢ true
+which-none none f l e k h p =
+    step (which f 1 l) (λ x i. in-which none f 1 x l i .0) (which-in none f 1 k l (h .0) (omega (arith, h .1))
+    (ap f (nth-behind none l k (h .0)) ∙ p)) e
+  where
+    step : (q : List ℕ) → ((x : ℕ) → In x q → 1 ≤ x) → In k q → firstOf q ≡ 0 → ⊥
+    step [] a i e = i
+    step (x ∷ q) a i e = omega (arith, a x (inl refl))
+
+-- ---- what the walks visit, who runs
+module _ (z : Size) (b : Board) (q : List ℕ) (queues : ℕ → List ℕ) (s : Stands z b q queues) where
+  -- the members of the task queue are tasks
+  pub order-numbered : (k : ℕ) → In k q → Numbered (z .tasks) k
+  order-numbered k i = rw (s .fits .tasks) at (present-numbered b k (s .linked .tasks .exact k .0 i))
+
+  -- the members of a queue are messages
+  pub queue-numbered : (k : ℕ) → Numbered (z .tasks) k → (m : ℕ) → In m (queues k) → Numbered (z .messages) m
+  queue-numbered k h m i =
+      rw (s .fits .places) at (placed-numbered b m (queued-placed b m k (s .linked .messages k h .exact m .0 i)))
+
+  -- the walk from byte 0 visits the task queue
+  pub order-walked : z .tasks ≤ z .messages → order z b ≡ q
+  order-walked l =
+      let c = s .linked .tasks .chain in
+      let n = pigeon (z .tasks) q (chain-once (nextTask b) (b .first) q c) (all-of _ q order-numbered) in
+      chain-walk (nextTask b) (z .messages) (b .first) q c (omega arith) .0
+
+  -- the walk from MPTR visits the queue
+  pub queue-walked : (k : ℕ) → Numbered (z .tasks) k → queue z b k ≡ queues k
+  queue-walked k h =
+      let c = s .linked .messages k h .chain in
+      let n = pigeon (z .messages) (queues k) (chain-once (nextMessage b) (task b k .mptr) (queues k) c)
+      (all-of _ (queues k) (queue-numbered k h)) in
+      chain-walk (nextMessage b) (z .messages) (task b k .mptr) (queues k) c n .0
+
+-- a ready task is present and waits for nothing
+pub ready-says : (b : Board) (k : ℕ) → ready b k ≡ true
+    → (present b k ≡ true) × (has (task b k .stat) WAIT ≡ false) × (has (task b k .stat) IWAT ≡ false)
+ready-says b k e =
+    let s : Status = task b k .stat in
+    let r = both (isPresent s && not (has s WAIT)) (not (has s IWAT)) e in
+    let p = both (isPresent s) (not (has s WAIT)) (r .0) in
+    (p .0, not-true (has s WAIT) (p .1), not-true (has s IWAT) (r .1))
+
+-- the running task is one of those walked, and ready
+pub runs : (z : Size) (b : Board) → running z b ≢ 0 → In (running z b) (order z b) × (ready b (running z b) ≡ true)
+runs z b h = first-with (ready b) (order z b) h
+
+-- a running task is present and waits for nothing
+pub runner-says : (z : Size) (b : Board) → let c = running z b in
+    c ≢ 0 → (present b c ≡ true) × (has (task b c .stat) WAIT ≡ false) × (has (task b c .stat) IWAT ≡ false)
+runner-says z b h = ready-says b (running z b) (runs z b h .1)
+
+-- ---- a row that refuses nothing
+abbrev stops : Verdict → Bool
+stops Go = false
+stops (Stop q) = true
+
+-- its first doesn't apply, and neither do the others
+pub go-passed : (t : Test) (tests : List Test) → lowest (t ∷ tests) ≡ Go → (t .applies ≡ false) × (lowest tests ≡ Go)
+go-passed t tests g = step (t .applies) refl
+  where
+    step : (a : Bool) → t .applies ≡ a → (t .applies ≡ false) × (lowest tests ≡ Go)
+    step true e = absurd (true≢false (ap stops (rw (e, lowest) at g)))
+    step false e = (e, rw (e, lowest) at g)
+
+-- of two neither applies
+pub neither : (s t : Bool) → s || t ≡ false → (s ≡ false) × (t ≡ false)
+neither true t e = absurd (true≢false e)
+neither false t e = (refl, e)
+
+-- 3: somebody runs
+pub runner-passed : (c : ℕ) → no3 c .applies ≡ false → c ≢ 0
+runner-passed c e = eqb-false c 0 e
+
+-- 4: the message is one of the board's
+pub message-passed : (z : Size) (m : ℕ) → no4 z m .applies ≡ false → Numbered (z .messages) m
+message-passed z m e = outside-within (z .messages) m e
+
+held-says : (c : ℕ) (p : Place) → isHeldBy c p ≡ true → p ≡ HeldBy (taskNo c)
+held-says c Free e = absurd (true≢false (sym e))
+held-says c (HeldBy k) e = ap (λ (n : ℕ). HeldBy (taskNo n)) (eqb-true (k .0) c e)
+held-says c (QueuedAt k) e = absurd (true≢false (sym e))
+held-says c (Nowhere p) e = absurd (true≢false (sym e))
+
+-- 5: the caller holds it
+pub held-passed : (b : Board) (c m : ℕ) → no5 b c m .applies ≡ false → place b m ≡ HeldBy (taskNo c)
+held-passed b c m e = held-says c (place b m) (not-false (isHeldBy c (place b m)) e)
+
+-- 3, 4 and 5 before others: the running task holds the message
+pub held-row : (z : Size) (b : Board) (c m : ℕ) (tests : List Test) → lowest (no3 c ∷ no4 z m ∷ no5 b c m ∷ tests) ≡ Go
+    → (c ≢ 0) × (place b m ≡ HeldBy (taskNo c)) × (lowest tests ≡ Go)
+held-row z b c m tests g =
+    let runs = go-passed (no3 c) (no4 z m ∷ no5 b c m ∷ tests) g in
+    let holds = go-passed (no5 b c m) tests (go-passed (no4 z m) (no5 b c m ∷ tests) (runs .1) .1) in
+    (runner-passed c (runs .0), held-passed b c m (holds .0), holds .1)
+
+-- 6: the task meant is one of the board's, and present
+pub task-passed : (z : Size) (b : Board) (r : ℕ) → no6 z b r .applies ≡ false → Numbered (z .tasks) r × (present b r ≡ true)
+task-passed z b r e =
+    let n = neither (outside (z .tasks) r) (not (present b r)) e in
+    (outside-within (z .tasks) r (n .0), not-false (present b r) (n .1))

@@ -1,0 +1,50 @@
+-- What calls keep, as statements; their proofs are in proofs/Theorems. A reader must believe this file.
+--   BodyStands          the body of a call that no refusal of its row stops leaves R1 to R6, and the lists that After says
+--   NeverStuck          refusal 15 is given on no board that passes
+--   PassingStaysPassing an accepted call on a board that passes leaves one that passes
+-- Assumes nothing.
+use mathlib.Core.Path.{_≡_}
+use mathlib.Core.Logic.{_≢_}
+use mathlib.Core.Bool.{Bool, true, false}
+use mathlib.Core.List.{List}
+use Prim.Native.Nat.{ℕ, _≤_, _<_}
+use lib.ListN.{length, getD}
+use Rattle.board.specs.declared.numbers.Size.{Size}
+use Rattle.board.specs.declared.status.Status.{Status}
+use Rattle.board.specs.declared.records.Task.{Task}
+use Rattle.board.specs.Status.{MHBS, has}
+use Rattle.board.specs.Board.{Board, total, boardOf, task}
+use Rattle.paper.specs.declared.call.Call.{Call}
+use Rattle.paper.specs.declared.answer.Refusal.the-variants.{NothingToDeliver}
+use Rattle.paper.specs.declared.answer.Answer.the-variants.{Refused}
+use Rattle.paper.specs.Rules.{running, passes}
+use Rattle.paper.specs.Refusals.{own, Go, lowest}
+use Rattle.paper.specs.Step.{Outcome, Done, body, effect}
+use Rattle.kept.specs.Stands.{Byte, Stands, Fitting}
+use Rattle.kept.specs.After.{orderAfter, queuesAfter}
+
+-- sizes for which a place byte tells held from queued, links are words, and one limit serves both kinds of walk
+pub record Sizes (z : Size) : Type 0 where
+  pub tasks : z .tasks ≤ 64
+  pub limit : z .tasks ≤ z .messages
+  pub words : z .messages < 65536
+
+abbrev pub BodyStands : Type 0
+BodyStands =
+    (z : Size) (b : Board) (order : List ℕ) (queues : ℕ → List ℕ) (call : Call) → Sizes z → Fitting call → Stands z b order queues
+    → let c = running z b in has (task b c .stat) MHBS ≡ false → lowest (own z b c call) ≡ Go
+    → Stands z (body z b c call .board) (orderAfter b order call) (queuesAfter b c queues call)
+
+-- a list of bytes of the board's length
+pub record Bytes (z : Size) (l : List ℕ) : Type 0 where
+  pub long : length l ≡ total z
+  pub bytes : (i : ℕ) → Byte (getD l i 0)
+
+abbrev pub NeverStuck : Type 0
+NeverStuck =
+    (z : Size) (l : List ℕ) (call : Call) → Sizes z → Bytes z l → Fitting call → effect z l call .answer ≢ Refused NothingToDeliver
+
+abbrev pub PassingStaysPassing : Type 0
+PassingStaysPassing =
+    (z : Size) (l : List ℕ) (call : Call) → Sizes z → Bytes z l → Fitting call → passes z (boardOf z l) ≡ true
+    → let o = effect z l call in Bytes z (o .after) × (passes z (boardOf z (o .after)) ≡ true)

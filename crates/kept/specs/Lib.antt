@@ -1,0 +1,3 @@
+pub mod Stands
+pub mod After
+pub mod Claims

@@ -1,0 +1,84 @@
+-- A board between a call's body and its dispatch: R1 to R6 hold, with the lists that its links list. A reader of the promises about
+-- calls must believe this file.
+--   Fits z b                  the records are as many as the size says and every field fits its bytes
+--   Stands z b order queues   b fits and keeps R1 to R6; its links list the tasks as order and the messages of task k as queues k
+--   Fitting call              the call's arguments are words and bytes, as the code's types have it
+-- Assumes nothing.
+use mathlib.Core.Path.{_≡_}
+use mathlib.Core.Logic.{_⊎_}
+use mathlib.Core.List.{List, [], _∷_}
+use Prim.Native.Nat.{ℕ, _≤_, _<_}
+use lib.ListN.{length}
+use Rattle.links.specs.Chain.{All}
+use Rattle.board.specs.declared.numbers.Size.{Size}
+use Rattle.board.specs.declared.status.Status.{Status}
+use Rattle.board.specs.declared.records.Task.{Task}
+use Rattle.board.specs.declared.records.Message.{Message}
+use Rattle.board.specs.declared.places.Place.{Place}
+use Rattle.board.specs.Records.{noTask}
+use Rattle.board.specs.Places.{placeOf, placeByte}
+use Rattle.board.specs.Board.{Board, task, message, place}
+use Rattle.paper.specs.declared.call.Call.{Call}
+use Rattle.paper.specs.declared.call.Call.the-variants.{Install, PostInterrupt, Find, CancelTask, Claim, Prepare, Release, Send, SendAndWait, Resend, ResendAndWait, Forward, ForwardAndWait, Return, ReturnAndWait, Receive, ReceiveAndWait, CancelMessage, WaitForInterrupt}
+use Rattle.linked.specs.Linked.{Numbered, Linked}
+use Rattle.linked.specs.Sound.{Proper, Kept, Flags}
+
+abbrev pub Byte : ℕ → Type 0
+Byte x = x < 256
+
+abbrev pub Word : ℕ → Type 0
+Word x = x < 65536
+
+pub record FitsTask (t : Task) : Type 0 where
+  pub stat : Byte (t .stat .0)
+  pub prio : Byte (t .prio)
+  pub link : Word (t .link)
+  pub mptr : Word (t .mptr)
+  pub sptr : Word (t .sptr)
+  pub name : Word (t .name)
+
+pub record FitsMessage (r : Message) : Type 0 where
+  pub stat : Byte (r .stat)
+  pub prio : Byte (r .prio)
+  pub link : Word (r .link)
+  pub rptr : Word (r .rptr)
+  pub sptr : Word (r .sptr)
+
+pub record Fits (z : Size) (b : Board) : Type 0 where
+  pub first : Byte (b .first)
+  pub zeros : length (b .zeros) ≡ 3
+  pub tasks : length (b .tasks) ≡ z .tasks
+  pub messages : length (b .messages) ≡ z .messages
+  pub places : length (b .places) ≡ z .messages
+  pub task : (k : ℕ) → FitsTask (task b k)
+  pub message : (m : ℕ) → FitsMessage (message b m)
+  pub place : (m : ℕ) → (Byte (placeByte (place b m))) × (placeOf z (placeByte (place b m)) ≡ place b m)
+
+pub record Stands (z : Size) (b : Board) (order : List ℕ) (queues : ℕ → List ℕ) : Type 0 where
+  pub fits : Fits z b
+  pub zeros : All (λ x. x ≡ 0) (b .zeros)  -- R1
+  pub records : (k : ℕ) → Numbered (z .tasks) k → (task b k ≡ noTask) ⊎ Proper (task b k)  -- R2
+  pub linked : Linked z b order queues  -- R3, R5
+  pub kept : (m : ℕ) → Numbered (z .messages) m → Kept z b m (place b m)  -- R4
+  pub flags : (k : ℕ) → Numbered (z .tasks) k → Flags (task b k .stat) (task b k .mptr ≡ 0)  -- R6
+
+abbrev pub Fitting : Call → Type 0
+Fitting (Install k s p sptr name) = Word k × Byte s × Byte p × Word sptr × Word name
+Fitting (PostInterrupt k) = Word k
+Fitting (Find name) = Word name
+Fitting (CancelTask k) = Word k
+Fitting Claim = Unit {0}
+Fitting (Prepare m s p sptr) = Word m × Byte s × Byte p × Word sptr
+Fitting (Release m) = Word m
+Fitting (Send m r) = Word m × Word r
+Fitting (SendAndWait m r) = Word m × Word r
+Fitting (Resend m) = Word m
+Fitting (ResendAndWait m) = Word m
+Fitting (Forward m r) = Word m × Word r
+Fitting (ForwardAndWait m r) = Word m × Word r
+Fitting (Return m) = Word m
+Fitting (ReturnAndWait m) = Word m
+Fitting Receive = Unit {0}
+Fitting ReceiveAndWait = Unit {0}
+Fitting (CancelMessage m r) = Word m × Word r
+Fitting WaitForInterrupt = Unit {0}

@@ -1,0 +1,58 @@
+-- R1 to R7 as document 01 words them, with no test that computes: what a board that passes is. A reader must believe this file.
+--   Proper t             what R2 asks of a present task
+--   Kept z b m p         what R4 asks of the message m where its place is p
+--   Flags s Empty        what R6 asks of a status; Empty says that the queue is empty
+--   Sound z b            R1 to R7
+-- Assumes nothing.
+use mathlib.Core.Path.{_≡_}
+use mathlib.Core.Logic.{_⊎_, _≢_}
+use mathlib.Core.Bool.{Bool, true, false}
+use mathlib.Core.List.{List}
+use Prim.Native.Nat.{ℕ, _≤_, _<_}
+use Rattle.links.specs.Chain.{All}
+use Rattle.board.specs.declared.numbers.Size.{Size}
+use Rattle.board.specs.declared.numbers.TaskNo.{TaskNo}
+use Rattle.board.specs.declared.status.Status.{Status}
+use Rattle.board.specs.declared.records.Task.{Task}
+use Rattle.board.specs.declared.records.Message.{Message}
+use Rattle.board.specs.declared.places.Place.{Place}
+use Rattle.board.specs.declared.places.Place.the-variants.{Free, HeldBy, QueuedAt, Nowhere}
+use Rattle.board.specs.Status.{WAIT, IWAT, BIT5, INTQ, MHBS, TCBB, has, fifo}
+use Rattle.board.specs.Records.{noTask, noMessage}
+use Rattle.board.specs.Board.{Board, task, message, place}
+use Rattle.paper.specs.Rules.{present, running}
+use Rattle.linked.specs.Linked.{Numbered, Linked}
+
+pub record Proper (t : Task) : Type 0 where
+  pub there : has (t .stat) TCBB ≡ true
+  pub bit5 : has (t .stat) BIT5 ≡ false
+  pub odd : fifo (t .prio) ≡ true
+  pub low : 0x03 ≤ t .prio
+  pub high : t .prio ≤ 0xFD
+
+pub record Pointers (z : Size) (r : Message) : Type 0 where
+  pub receiver : r .rptr ≤ z .tasks
+  pub sender : r .sptr ≤ z .tasks
+
+abbrev pub Kept : Size → Board → ℕ → Place → Type 0
+Kept z b m Free = message b m ≡ noMessage
+Kept z b m (HeldBy k) = Pointers z (message b m) × (message b m .link ≡ 0) × (present b (k .0) ≡ true)
+Kept z b m (QueuedAt k) =
+    Pointers z (message b m) × (fifo (message b m .prio) ≡ true) × (message b m .prio < 0xFF) × (present b (k .0) ≡ true)
+Kept z b m (Nowhere p) = ⊥
+
+pub record Flags (s : Status) (Empty : Type 0) : Type 0 where
+  pub one : has s WAIT ≡ true → has s IWAT ≡ false
+  pub waiting : has s WAIT ≡ true → Empty × (has s MHBS ≡ false)
+  pub parked : has s IWAT ≡ true → (has s INTQ ≡ false) × (has s MHBS ≡ false)
+  pub due : has s MHBS ≡ true → Empty → ⊥
+
+pub record Sound (z : Size) (b : Board) : Type 0 where
+  pub order : List ℕ
+  pub queues : ℕ → List ℕ
+  pub zeros : All (λ x. x ≡ 0) (b .zeros)  -- R1
+  pub records : (k : ℕ) → Numbered (z .tasks) k → (task b k ≡ noTask) ⊎ Proper (task b k)  -- R2
+  pub linked : Linked z b order queues  -- R3, R5
+  pub kept : (m : ℕ) → Numbered (z .messages) m → Kept z b m (place b m)  -- R4
+  pub flags : (k : ℕ) → Numbered (z .tasks) k → Flags (task b k .stat) (task b k .mptr ≡ 0)  -- R6
+  pub runner : has (task b (running z b) .stat) MHBS ≡ false  -- R7

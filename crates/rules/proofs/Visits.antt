@@ -1,0 +1,109 @@
+-- The counting walk: what each turn of the loop does to it, and what it comes to.
+-- Assumes nothing.
+use mathlib.Core.Path.{_≡_, refl, sym, ap, ap₂, _∙_}
+use mathlib.Core.Bool.{Bool, true, false, cond, _&&_}
+use mathlib.Core.List.{List, [], _∷_}
+use Prim.Native.Nat.{ℕ, zero, suc, _+_, _-_, _≤_, _<_}
+use native.Mathlib.Omega.{arith}
+use lib.ListN.{length}
+use lib.Dec.{eqb, leb}
+use borrow.Author.Tests.{eq-eqb, ne-eqb}
+use Rattle.links.specs.Queue.{walk, ends, rising}
+use Rattle.rules.specs.declared.walks.Turn.{Turn}
+use Rattle.rules.specs.declared.walks.Turn.the-variants.{Next, Stray}
+use Rattle.rules.specs.declared.walks.Walked.{Walked}
+use Rattle.rules.specs.declared.walks.Walked.the-variants.{Seen, Broken}
+use Rattle.rules.specs.Walks.{turned, visited}
+
+module _ (next number : ℕ → ℕ) (good : ℕ → Bool) where
+  -- ---- the loop
+  -- a walk ends where the link is 0
+  pub visited-end : (n x low s : ℕ) → x ≡ 0 → visited next number good n x low s ≡ Seen s
+  unfolding visited
+  visited-end zero x low s e = ap (λ (t : Bool). cond t (Seen s) Broken) (eq-eqb x 0 e)
+  visited-end (suc n) zero low s e = refl
+  visited-end (suc n) (suc x) low s e = absurd (omega arith)
+
+  -- with no link left to follow it must be 0
+  pub visited-out : (n x low s : ℕ) → n ≡ 0 → (x ≡ 0 → ⊥) → visited next number good n x low s ≡ Broken
+  unfolding visited
+  visited-out zero x low s e h = ap (λ (t : Bool). cond t (Seen s) Broken) (ne-eqb x 0 h)
+  visited-out (suc n) x low s e h = absurd (omega arith)
+
+  -- what a walk is behind a turn
+  abbrev onward : ℕ → ℕ → Turn → Walked
+  onward n s (Next v p) = visited next number good n v p s
+  onward n s Stray = Broken
+
+  onward-turned : (n s : ℕ) (x low : ℕ) (t : Bool) → good x && leb low (number x) ≡ t
+      → cond t (visited next number good n (next x) (number x) s) Broken ≡ onward n s (cond t (Next (next x) (number x)) Stray)
+  onward-turned n s x low true e = refl
+  onward-turned n s x low false e = refl
+
+  visited-turned : (n x low s : ℕ) → 0 < n → (x ≡ 0 → ⊥)
+      → visited next number good n x low s ≡ onward (n - 1) (s + 1) (turned next number good x low)
+  unfolding visited
+  visited-turned zero x low s h g = absurd (omega arith)
+  visited-turned (suc n) zero low s h g = absurd (g refl)
+  visited-turned (suc n) (suc x) low s h g =
+      let e : suc n - 1 ≡ n = omega arith in
+      let f : suc s ≡ s + 1 = omega arith in
+      onward-turned n (suc s) (suc x) low (good (suc x) && leb low (number (suc x))) refl
+      ∙ ap₂ (λ (i j : ℕ). onward i j (turned next number good (suc x) low)) (sym e) f
+
+  -- a link that is followed
+  pub visited-on : (n x low s v p : ℕ) → 0 < n → (x ≡ 0 → ⊥) → turned next number good x low ≡ Next v p
+      → visited next number good n x low s ≡ visited next number good (n - 1) v p (s + 1)
+  visited-on n x low s v p h g e = visited-turned n x low s h g ∙ ap (onward (n - 1) (s + 1)) e
+
+  -- a record that does not belong there
+  pub visited-stray : (n x low s : ℕ) → 0 < n → (x ≡ 0 → ⊥) → turned next number good x low ≡ Stray
+      → visited next number good n x low s ≡ Broken
+  visited-stray n x low s h g e = visited-turned n x low s h g ∙ ap (onward (n - 1) (s + 1)) e
+
+  -- ---- what it comes to
+  abbrev pub every : List ℕ → Bool
+  every [] = true
+  every (x ∷ q) = good x && every q
+
+  -- the links end, visit only what belongs there, and priority numbers never fall from low on
+  abbrev pub orderly : ℕ → ℕ → ℕ → Bool
+  orderly n x low = ends next n x && (every (walk next n x) && rising number low (walk next n x))
+
+  visited-is : (n x low s : ℕ) → visited next number good n x low s ≡ cond (orderly n x low) (Seen (s + length (walk next n x))) Broken
+  unfolding visited
+  visited-is zero x low s = go (eqb x 0)
+    where
+      go : (t : Bool) → cond t (Seen s) Broken ≡ cond (t && true) (Seen (s + 0)) Broken
+      go true = ap Seen (let e : s ≡ s + 0 = omega arith in e)
+      go false = refl
+  visited-is (suc n) zero low s = ap Seen (let e : s ≡ s + 0 = omega arith in e)
+  visited-is (suc n) (suc x) low s = go (good (suc x)) (leb low (number (suc x))) (visited-is n (next (suc x)) (number (suc x)) (suc s))
+    where
+      q : List ℕ
+      q = walk next n (next (suc x))
+
+      swap : (t u v : Bool) → t && (u && v) ≡ t && (true && u && (true && v))
+      swap true u v = refl
+      swap false u v = refl
+
+      none : (t u v : Bool) → (t && (false && u && v) ≡ false) × (t && (true && u && (false && v)) ≡ false)
+      none true true v = (refl, refl)
+      none true false v = (refl, refl)
+      none false u v = (refl, refl)
+
+      go : (t u : Bool) → visited next number good n (next (suc x)) (number (suc x)) (suc s)
+          ≡ cond (orderly n (next (suc x)) (number (suc x))) (Seen (suc s + length q)) Broken
+          → cond (t && u) (visited next number good n (next (suc x)) (number (suc x)) (suc s)) Broken
+          ≡ cond (ends next n (next (suc x)) && (t && every q && (u && rising number (number (suc x)) q))) (Seen (s + suc (length q))) Broken
+      go true true e =
+          e ∙ ap₂ (λ (t : Bool) (m : ℕ). cond t (Seen m) Broken) (swap (ends next n (next (suc x))) (every q) (rising number (number (suc x)) q))
+          (let f : suc s + length q ≡ s + suc (length q) = omega arith in f)
+      go true false e = ap (λ (t : Bool). cond t (Seen (s + suc (length q))) Broken) (sym (none (ends next n (next (suc x))) (every q) (rising number (number (suc x)) q) .1))
+      go false u e = ap (λ (t : Bool). cond t (Seen (s + suc (length q))) Broken) (sym (none (ends next n (next (suc x))) (every q) (u && rising number (number (suc x)) q) .0))
+
+  -- a whole walk
+  pub visited-whole : (n x : ℕ) → visited next number good n x 0 0 ≡ cond (orderly n x 0) (Seen (length (walk next n x))) Broken
+  visited-whole n x =
+      visited-is n x 0 0
+      ∙ ap (λ (m : ℕ). cond (orderly n x 0) (Seen m) Broken) (let e : 0 + length (walk next n x) ≡ length (walk next n x) = omega arith in e)

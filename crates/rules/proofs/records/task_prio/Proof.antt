@@ -1,0 +1,25 @@
+use borrow.Author.Needs.{needs}
+use Rattle.rules.proofs.records.task_prio.Statement.{statement}
+use Rattle.rules.proofs.records.task_prio.Tie as tie
+use Rattle.rules.proofs.records.task_prio.Reads as reads
+use Rattle.rules.proofs.records.task_prio.Lts as lts
+use Rattle.board.proofs.priority.fifo.Reads as fifo-reads
+
+-- src/records.rt:58:9
+fifo-requires : tie.Need-fifo-requires
+fifo-requires c κs = search needs
+
+-- src/records.rt:59:9
+returns : tie.Need-returns
+returns c = ?
+
+-- src/records.rt:62:9
+returns-2 : tie.Need-returns-2
+returns-2 c = ?
+
+-- src/records.rt:55:1
+returns-3 : tie.Need-returns-3
+returns-3 c = ?
+
+pub task-prio-spec : {M : Type 1} → statement M
+task-prio-spec = tie.close (tie.spec fifo-requires returns returns-2 returns-3)

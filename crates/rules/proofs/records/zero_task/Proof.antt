@@ -1,0 +1,38 @@
+use borrow.Author.Needs.{needs}
+use Rattle.rules.proofs.records.zero_task.Statement.{statement}
+use Rattle.rules.proofs.records.zero_task.Tie as tie
+use Rattle.rules.proofs.records.zero_task.Reads as reads
+use Rattle.rules.proofs.records.zero_task.Lts as lts
+use Rattle.board.proofs.status.Status.byte.Reads as byte-reads
+
+-- src/records.rt:36:8
+byte-requires : tie.Need-byte-requires
+byte-requires c κs = search needs
+
+-- src/records.rt:37:9
+returns : tie.Need-returns
+returns c = ?
+
+-- src/records.rt:40:9
+returns-2 : tie.Need-returns-2
+returns-2 c = ?
+
+-- src/records.rt:43:9
+returns-3 : tie.Need-returns-3
+returns-3 c = ?
+
+-- src/records.rt:46:9
+returns-4 : tie.Need-returns-4
+returns-4 c = ?
+
+-- src/records.rt:49:9
+returns-5 : tie.Need-returns-5
+returns-5 c = ?
+
+-- src/records.rt:32:1
+returns-6 : tie.Need-returns-6
+returns-6 c = ?
+
+pub zero-task-spec : {M : Type 1} → statement M
+zero-task-spec =
+    tie.close (tie.spec byte-requires returns returns-2 returns-3 returns-4 returns-5 returns-6)

@@ -1,0 +1,59 @@
+use borrow.Author.Needs.{needs}
+use Rattle.rules.proofs.walks.message_turn.Statement.{statement}
+use Rattle.rules.proofs.walks.message_turn.Tie as tie
+use Rattle.rules.proofs.walks.message_turn.Reads as reads
+use Rattle.rules.proofs.walks.message_turn.Lts as lts
+use Rattle.board.proofs.numbers.TaskNo.number.Reads as numbers-TaskNo-number-reads
+use Rattle.board.proofs.priority.number.Reads as priority-number-reads
+use Rattle.board.proofs.words.message_meant.Reads as message-meant-reads
+use Rattle.board.proofs.words.place_meant.Reads as place-meant-reads
+
+-- src/walks.rt:99:9
+place-meant-requires : tie.Need-place-meant-requires
+place-meant-requires c κs = search needs
+
+-- src/walks.rt:100:25
+enum-known-p : tie.Need-enum-known-p
+enum-known-p c = search needs
+
+-- src/walks.rt:101:9
+returns : tie.Need-returns
+returns c = ?
+
+-- src/walks.rt:103:8
+number-requires : tie.Need-number-requires
+number-requires c κs = search needs
+
+-- src/walks.rt:104:9
+returns-2 : tie.Need-returns-2
+returns-2 c = ?
+
+-- src/walks.rt:106:9
+message-meant-requires : tie.Need-message-meant-requires
+message-meant-requires c κs = search needs
+
+-- src/walks.rt:107:9
+number-requires-2 : tie.Need-number-requires-2
+number-requires-2 c κs = search needs
+
+-- src/walks.rt:109:9
+returns-3 : tie.Need-returns-3
+returns-3 c = ?
+
+-- src/walks.rt:96:1
+returns-4 : tie.Need-returns-4
+returns-4 c = ?
+
+pub message-turn-spec : {M : Type 1} → statement M
+message-turn-spec =
+    tie.close
+    (tie.spec
+    place-meant-requires
+    enum-known-p
+    returns
+    number-requires
+    returns-2
+    message-meant-requires
+    number-requires-2
+    returns-3
+    returns-4)

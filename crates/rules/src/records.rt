@@ -1,0 +1,230 @@
+// R1, R2, R4 and R6: what the bytes of one record must be.
+ghost use mathlib.Core.Path.{_≡_};
+ghost use lib.ListN.{take, drop};
+ghost use Rattle.links.specs.Queue.{each};
+ghost use Rattle.board.specs.declared.places.Place.the-variants.{HeldBy, QueuedAt};
+ghost use Rattle.board.specs.Board.{boardOf};
+ghost use Rattle.paper.specs.Rules.{present, allZero, zeroTask, taskPrio, goodHead, goodTask, rule2At, zeroMessage, goodPointers, goodMessage, rule4At, goodFlags, rule6At};
+use board::bytes::byte;
+use board::numbers::Size;
+use board::numbers::TaskNo;
+use board::places::Place;
+use board::priority::fifo;
+use board::records::Message;
+use board::records::Task;
+use board::status::Status;
+use board::words::message_meant;
+use board::words::place_meant;
+use board::words::task_meant;
+
+pub fn rule1(b: &[u8]) -> bool
+    ensures { λ res. ⌜ res ≡ allZero (take 3 (drop 1 (now (b .entry)))) ⌝ }
+{
+    if byte(b, 1) != 0 {
+        return false;
+    }
+    if byte(b, 2) != 0 {
+        return false;
+    }
+    byte(b, 3) == 0
+}
+
+fn zero_task(t: Task) -> bool
+    ensures { λ res. ⌜ res ≡ zeroTask t ⌝ }
+{
+    let s = t.stat;
+    if s.byte() != 0 {
+        return false;
+    }
+    if t.prio != 0 {
+        return false;
+    }
+    if t.link != 0 {
+        return false;
+    }
+    if t.mptr != 0 {
+        return false;
+    }
+    if t.sptr != 0 {
+        return false;
+    }
+    t.name == 0
+}
+
+// A priority that a task may have, odd.
+pub fn task_prio(p: u8) -> bool
+    ensures { λ res. ⌜ res ≡ taskPrio p ⌝ }
+{
+    if !fifo(p) {
+        return false;
+    }
+    if p < 0x03 {
+        return false;
+    }
+    p <= 0xFD
+}
+
+fn good_head(s: Status, p: u8) -> bool
+    ensures { λ res. ⌜ res ≡ goodHead s p ⌝ }
+{
+    if !s.has(Status::TCBB) {
+        return false;
+    }
+    if s.has(Status::BIT5) {
+        return false;
+    }
+    task_prio(p)
+}
+
+fn good_task(t: Task) -> bool
+    ensures { λ res. ⌜ res ≡ goodTask t ⌝ }
+{
+    if zero_task(t) {
+        return true;
+    }
+    good_head(t.stat, t.prio)
+}
+
+pub fn rule2(z: Size, b: &[u8]) -> bool
+    ensures { λ res. ⌜ res ≡ each (rule2At (boardOf z (now (b .entry)))) (z .tasks) ⌝ }
+{
+    let most = z.tasks;
+    let mut k: u16 = 0;
+    while k < most {
+        k += 1;
+        if !good_task(task_meant(z, b, k)) {
+            return false;
+        }
+    }
+    true
+}
+
+fn zero_message(r: Message) -> bool
+    ensures { λ res. ⌜ res ≡ zeroMessage r ⌝ }
+{
+    if r.stat != 0 {
+        return false;
+    }
+    if r.prio != 0 {
+        return false;
+    }
+    if r.link != 0 {
+        return false;
+    }
+    if r.rptr != 0 {
+        return false;
+    }
+    r.sptr == 0
+}
+
+fn good_pointers(z: Size, r: Message) -> bool
+    ensures { λ res. ⌜ res ≡ goodPointers z r ⌝ }
+{
+    if z.tasks < r.rptr {
+        return false;
+    }
+    r.sptr <= z.tasks
+}
+
+fn present_at(z: Size, b: &[u8], k: TaskNo) -> bool
+    ensures { λ res. ⌜ res ≡ present (boardOf z (now (b .entry))) (k .0) ⌝ }
+{
+    let t = task_meant(z, b, k.number());
+    t.present()
+}
+
+// A held message: RPTR and SPTR in range, LINK 0, its holder present.
+fn good_held(z: Size, b: &[u8], r: Message, k: TaskNo) -> bool
+    ensures { λ res. ⌜ res ≡ goodMessage z (present (boardOf z (now (b .entry)))) r (HeldBy k) ⌝ }
+{
+    if !good_pointers(z, r) {
+        return false;
+    }
+    if r.link != 0 {
+        return false;
+    }
+    present_at(z, b, k)
+}
+
+// A queued message: RPTR and SPTR in range, PRIO odd and below FFH, its receiver present.
+fn good_queued(z: Size, b: &[u8], r: Message, k: TaskNo) -> bool
+    ensures { λ res. ⌜ res ≡ goodMessage z (present (boardOf z (now (b .entry)))) r (QueuedAt k) ⌝ }
+{
+    if !good_pointers(z, r) {
+        return false;
+    }
+    if !fifo(r.prio) {
+        return false;
+    }
+    if 0xFF <= r.prio {
+        return false;
+    }
+    present_at(z, b, k)
+}
+
+fn good_message(z: Size, b: &[u8], r: Message, p: Place) -> bool
+    ensures { λ res. ⌜ res ≡ goodMessage z (present (boardOf z (now (b .entry)))) r p ⌝ }
+{
+    match p {
+        Place::Free => zero_message(r),
+        Place::HeldBy(k) => good_held(z, b, r, k),
+        Place::QueuedAt(k) => good_queued(z, b, r, k),
+        Place::Nowhere(_) => false,
+    }
+}
+
+pub fn rule4(z: Size, b: &[u8]) -> bool
+    ensures { λ res. ⌜ res ≡ each (rule4At z (boardOf z (now (b .entry)))) (z .messages) ⌝ }
+{
+    let most = z.messages;
+    let mut m: u16 = 0;
+    while m < most {
+        m += 1;
+        let r = message_meant(z, b, m);
+        let p = place_meant(z, b, m);
+        if !good_message(z, b, r, p) {
+            return false;
+        }
+    }
+    true
+}
+
+fn good_flags(s: Status, empty: bool) -> bool
+    ensures { λ res. ⌜ res ≡ goodFlags s empty ⌝ }
+{
+    let due = s.has(Status::MHBS);
+    if s.has(Status::WAIT) {
+        if s.has(Status::IWAT) {
+            return false;
+        }
+        if due {
+            return false;
+        }
+        return empty;
+    }
+    if s.has(Status::IWAT) {
+        if s.has(Status::INTQ) {
+            return false;
+        }
+        return !due;
+    }
+    if due {
+        return !empty;
+    }
+    true
+}
+
+pub fn rule6(z: Size, b: &[u8]) -> bool
+    ensures { λ res. ⌜ res ≡ each (rule6At (boardOf z (now (b .entry)))) (z .tasks) ⌝ }
+{
+    let most = z.tasks;
+    let mut k: u16 = 0;
+    while k < most {
+        k += 1;
+        let t = task_meant(z, b, k);
+        if !good_flags(t.stat, t.mptr == 0) {
+            return false;
+        }
+    }
+    true
+}
