@@ -6,12 +6,11 @@
 -- Assumes nothing.
 use mathlib.Core.Path.{_≡_}
 use mathlib.Core.Logic.{_↔_}
-use mathlib.Core.Bool.{Bool, true}
+use mathlib.Core.Bool.{true}
 use mathlib.Core.List.{List}
 use Prim.Native.Nat.{ℕ, _≤_}
 use Rattle.links.specs.Chain.{In, Out, Once}
 use Rattle.board.specs.declared.numbers.Size.{Size}
-use Rattle.board.specs.declared.places.Place.{Place}
 use Rattle.board.specs.declared.places.Place.the-variants.{Free, HeldBy, QueuedAt}
 use Rattle.board.specs.Numbers.{taskNo}
 use Rattle.board.specs.Records.{noMessage}

@@ -5,13 +5,11 @@
 -- Assumes nothing.
 use mathlib.Core.Path.{_≡_}
 use mathlib.Core.Logic.{_↔_}
-use mathlib.Core.Bool.{Bool, true}
+use mathlib.Core.Bool.{true}
 use mathlib.Core.List.{List}
 use Prim.Native.Nat.{ℕ, _≤_}
 use Rattle.links.specs.Chain.{In, Sorted, Chain}
 use Rattle.board.specs.declared.numbers.Size.{Size}
-use Rattle.board.specs.declared.records.Task.{Task}
-use Rattle.board.specs.declared.places.Place.{Place}
 use Rattle.board.specs.declared.places.Place.the-variants.{QueuedAt}
 use Rattle.board.specs.Numbers.{taskNo}
 use Rattle.board.specs.Board.{Board, task, place}

@@ -5,13 +5,13 @@
 --   Sound z b            R1 to R7
 -- Assumes nothing.
 use mathlib.Core.Path.{_≡_}
-use mathlib.Core.Logic.{_⊎_, _≢_}
-use mathlib.Core.Bool.{Bool, true, false}
+use mathlib.Core.Logic.{_⊎_}
+use mathlib.Core.Bool.{true, false}
 use mathlib.Core.List.{List}
 use Prim.Native.Nat.{ℕ, _≤_, _<_}
+use Rattle.links.specs.Queue.{firstWith}
 use Rattle.links.specs.Chain.{All}
 use Rattle.board.specs.declared.numbers.Size.{Size}
-use Rattle.board.specs.declared.numbers.TaskNo.{TaskNo}
 use Rattle.board.specs.declared.status.Status.{Status}
 use Rattle.board.specs.declared.records.Task.{Task}
 use Rattle.board.specs.declared.records.Message.{Message}
@@ -20,7 +20,7 @@ use Rattle.board.specs.declared.places.Place.the-variants.{Free, HeldBy, Queued
 use Rattle.board.specs.Status.{WAIT, IWAT, BIT5, INTQ, MHBS, TCBB, has, fifo}
 use Rattle.board.specs.Records.{noTask, noMessage}
 use Rattle.board.specs.Board.{Board, task, message, place}
-use Rattle.paper.specs.Rules.{present, running}
+use Rattle.paper.specs.Rules.{present, ready}
 use Rattle.linked.specs.Linked.{Numbered, Linked}
 
 pub record Proper (t : Task) : Type 0 where
@@ -55,4 +55,4 @@ pub record Sound (z : Size) (b : Board) : Type 0 where
   pub linked : Linked z b order queues  -- R3, R5
   pub kept : (m : ℕ) → Numbered (z .messages) m → Kept z b m (place b m)  -- R4
   pub flags : (k : ℕ) → Numbered (z .tasks) k → Flags (task b k .stat) (task b k .mptr ≡ 0)  -- R6
-  pub runner : has (task b (running z b) .stat) MHBS ≡ false  -- R7
+  pub runner : has (task b (firstWith (ready b) order) .stat) MHBS ≡ false  -- R7

@@ -8,19 +8,8 @@ use native.Mathlib.Omega.{arith}
 use lib.ListN.{length}
 use Rattle.links.specs.Queue.{firstOf}
 use Rattle.links.specs.Chain.{Chain}
+use Rattle.links.specs.Seek.{Spot, seek}
 use Rattle.links.proofs.Insertion.{before, after, lastOr, last0}
-
--- where the walk stands
-pub record Spot : Type 0 where
-  pub prev : ℕ
-  pub cur : ℕ
-
--- from cur, with prev just passed, to the first that goes is true of; at most n turns
-abbrev pub seek : (ℕ → Bool) → (ℕ → ℕ) → ℕ → ℕ → ℕ → Spot
-seek goes next zero prev cur = record { prev = prev; cur = cur }
-seek goes next (suc n) prev zero = record { prev = prev; cur = 0 }
-seek goes next (suc n) prev (suc x) =
-    elim (goes (suc x)) [ true ↦ record { prev = prev; cur = suc x } | false ↦ seek goes next n (suc x) (next (suc x)) ]
 
 -- ---- a turn, where fuel and number are no `suc`
 -- one that is passed

@@ -1,2 +1,4 @@
 pub mod Visits
 pub mod Counting
+mod Turns
+mod Tests

@@ -1,0 +1,58 @@
+-- Tests of the code that are a definition's in other words: bytes 1 to 3, and a place that is queued or not.
+-- Assumes nothing.
+use mathlib.Core.Path.{_≡_, refl, sym, ap, ap₂, _∙_}
+use mathlib.Core.Logic.{_⊎_, inl, inr, ⊎-elim}
+use mathlib.Core.Bool.{Bool, true, false, _&&_, _||_, and-true, true≢false}
+use mathlib.Core.List.{List, [], _∷_}
+use Prim.Native.Nat.{ℕ, zero, suc}
+use native.Mathlib.Omega.{arith}
+use lib.Dec.{eqb}
+use lib.ListN.{getD, take, drop}
+use borrow.Author.Tests.{eq-eqb, ne-eqb}
+use denote.Enum.Declared.{tagOf}
+use types.Run.{OneOf}
+use Rattle.board.specs.declared.numbers.TaskNo.{TaskNo}
+use Rattle.board.specs.declared.places.Place.{Place}
+use Rattle.board.specs.declared.places.Place.the-variants.{Free, HeldBy, QueuedAt, Nowhere}
+use Rattle.board.specs.Places.{isQueuedAt}
+use Rattle.board.proofs.places.Place.{the-type}
+use Rattle.paper.specs.Rules.{allZero}
+use Rattle.rules.specs.Walks.{isQueued}
+
+-- ---- bytes 1 to 3
+-- they are read one by one, as 0 past the end
+pub zeros-read : (l : List ℕ) → allZero (take 3 (drop 1 l)) ≡ eqb (getD l 1 0) 0 && (eqb (getD l 2 0) 0 && eqb (getD l 3 0) 0)
+zeros-read [] = refl
+zeros-read (x ∷ []) = refl
+zeros-read (x ∷ y ∷ []) = refl
+zeros-read (x ∷ y ∷ u ∷ []) = refl
+zeros-read (x ∷ y ∷ u ∷ v ∷ l) = ap (λ (t : Bool). eqb y 0 && (eqb u 0 && t)) (and-true (eqb v 0))
+
+-- ---- flags
+-- a test that follows from the one before it
+pub absorbed : (s t : Bool) → s && (s || t) ≡ s
+absorbed true t = refl
+absorbed false t = refl
+
+-- ---- places
+-- the code met another variant than QueuedAt
+pub not-queued : (p : Place) → OneOf (0 ∷ 1 ∷ 3 ∷ []) (tagOf the-type p) → isQueued p ≡ false
+not-queued Free h = refl
+not-queued (HeldBy k) h = refl
+not-queued (QueuedAt k) h = absurd (⊎-elim (λ e. omega arith) (λ i. ⊎-elim (λ e. omega arith) (λ e. omega arith) i) h)
+not-queued (Nowhere p) h = refl
+
+-- what is not queued is queued at nobody
+pub queued-nowhere : (k : ℕ) (p : Place) → isQueued p ≡ false → isQueuedAt k p ≡ false
+queued-nowhere k Free e = refl
+queued-nowhere k (HeldBy r) e = refl
+queued-nowhere k (QueuedAt r) e = absurd (true≢false e)
+queued-nowhere k (Nowhere p) e = refl
+
+-- it is queued at the task of number n, which is k or is not
+pub queued-there : (k : ℕ) (p q : Place) (r : TaskNo) (n : ℕ) → p ≡ q → p ≡ QueuedAt r → n ≡ r .0 → n ≡ k → isQueuedAt k q ≡ true
+queued-there k p q r n e h s t = ap (isQueuedAt k) (sym e ∙ h) ∙ eq-eqb (r .0) k (sym s ∙ t)
+
+pub queued-elsewhere : (k : ℕ) (p q : Place) (r : TaskNo) (n : ℕ) → p ≡ q → p ≡ QueuedAt r → n ≡ r .0 → (n ≡ k → ⊥)
+    → isQueuedAt k q ≡ false
+queued-elsewhere k p q r n e h s t = ap (isQueuedAt k) (sym e ∙ h) ∙ ne-eqb (r .0) k (λ i. t (s ∙ i))

@@ -1,0 +1,98 @@
+-- What each turn of a loop and each way out of it makes of the definition: one hypothesis for each test and each callee's contract.
+-- Assumes nothing.
+use mathlib.Core.Path.{_≡_, refl, sym, ap, ap₂, _∙_}
+use mathlib.Core.Bool.{Bool, true, false, cond, not, _&&_, true≢false}
+use mathlib.Core.List.{List, [], _∷_}
+use Prim.Native.Nat.{ℕ, zero, suc, _+_, _-_, _*_, _≤_, _<_}
+use native.Mathlib.Omega.{arith}
+use lib.Dec.{eqb, leb}
+use lib.ListN.{getD, take, drop}
+use borrow.Author.Tests.{not-true, not-false, le-leb, lt-leb}
+use Rattle.links.specs.Queue.{walk, firstWith, each}
+use Rattle.links.proofs.Bools.{and-true, each-at}
+use Rattle.links.proofs.Chains.{walk-step, walk-end}
+use Rattle.rules.specs.declared.walks.Turn.{Turn}
+use Rattle.rules.specs.declared.walks.Turn.the-variants.{Next, Stray}
+use Rattle.rules.specs.declared.walks.Walked.{Walked}
+use Rattle.rules.specs.declared.walks.Walked.the-variants.{Seen, Broken}
+use Rattle.rules.specs.Walks.{turned, visited, counted}
+use Rattle.rules.proofs.Visits.{visited-end, visited-out, visited-on, visited-stray}
+use Rattle.rules.proofs.Counting.{counted-turn}
+
+-- ---- each number passes: R2, R4, R6, where t is what the code answers for the next number
+module _ (f : ℕ → Bool) where
+  -- it passes too
+  pub each-next : (k : ℕ) (t : Bool) → t ≡ f (k + 1) → not t ≡ false → each f k ≡ true → each f (k + 1) ≡ true
+  each-next k t e n h =
+      let s : k + 1 ≡ suc k = omega arith in
+      ap (each f) s ∙ and-true (each f k) (f (suc k)) h (ap f (sym s) ∙ sym e ∙ not-false t n)
+
+  -- it fails, so they do not all pass
+  pub each-fails : (n k : ℕ) (t : Bool) → k < n → t ≡ f (k + 1) → not t ≡ true → false ≡ each f n
+  each-fails n k t h e q = go (each f n) refl
+    where
+      go : (s : Bool) → each f n ≡ s → false ≡ s
+      go true r = absurd (true≢false (sym (each-at f n r (k + 1) (omega arith) (omega arith)) ∙ sym e ∙ not-true t q))
+      go false r = refl
+
+  -- it was the last
+  pub each-done : (n k : ℕ) → k ≡ n → each f k ≡ true → true ≡ each f n
+  each-done n k e h = sym h ∙ ap (each f) e
+
+  -- ---- those that pass are counted
+  -- one more
+  pub count-yes : (k n : ℕ) → f (k + 1) ≡ true → n ≡ counted f k → n + 1 ≡ counted f (k + 1)
+  count-yes k n e h = let s : n + 1 ≡ 1 + counted f k = omega arith in s ∙ sym (counted-turn f k true e)
+
+  -- no more
+  pub count-no : (k n : ℕ) → f (k + 1) ≡ false → n ≡ counted f k → n ≡ counted f (k + 1)
+  count-no k n e h = let s : n ≡ 0 + counted f k = omega arith in s ∙ sym (counted-turn f k false e)
+
+-- ---- a walk that counts
+module _ (next number : ℕ → ℕ) (good : ℕ → Bool) where
+  -- one link: the record does not belong there
+  pub turn-stray : (x low : ℕ) → good x ≡ false → Stray ≡ turned next number good x low
+  turn-stray x low e = rw e
+
+  -- its priority number n is below the one before
+  pub turn-falls : (x low n : ℕ) → good x ≡ true → n ≡ number x → n < low → Stray ≡ turned next number good x low
+  turn-falls x low n e h l = rw (e, lt-leb low (number x) (omega arith))
+
+  -- it belongs there
+  pub turn-on : (x low v n : ℕ) → good x ≡ true → v ≡ next x → n ≡ number x → low ≤ n → Next v n ≡ turned next number good x low
+  turn-on x low v n e g h l = rw (e, le-leb low (number x) (omega arith)) (ap₂ Next g h)
+
+  -- the loop, where the walk comes to w from the link x with s records seen: it ends
+  module _ (most : ℕ) (w : Walked) (x low s : ℕ) (inv : visited next number good (most - s) x low s ≡ w) where
+    pub walk-ends : x ≡ 0 → Seen s ≡ w
+    walk-ends e = sym (visited-end next number good (most - s) x low s e) ∙ inv
+
+    -- it meets a record that does not belong there
+    pub walk-strays : s < most → (x ≡ 0 → ⊥) → Stray ≡ turned next number good x low → Broken ≡ w
+    walk-strays h g e = sym (visited-stray next number good (most - s) x low s (omega arith) g (sym e)) ∙ inv
+
+    -- it goes on
+    pub walk-goes-on : (v p : ℕ) → s < most → (x ≡ 0 → ⊥) → Next v p ≡ turned next number good x low
+        → visited next number good (most - (s + 1)) v p (s + 1) ≡ w
+    walk-goes-on v p h g e =
+        let d : most - s - 1 ≡ most - (s + 1) = omega arith in
+        ap (λ (n : ℕ). visited next number good n v p (s + 1)) (sym d)
+        ∙ sym (visited-on next number good (most - s) x low s v p (omega arith) g (sym e)) ∙ inv
+
+    -- it gives up
+    pub walk-gives-up : most ≤ s → (x ≡ 0 → ⊥) → Broken ≡ w
+    walk-gives-up h g = sym (visited-out next number good (most - s) x low s (omega arith) g) ∙ inv
+
+-- ---- a walk for the first that passes
+module _ (f : ℕ → Bool) (next : ℕ → ℕ) (n x : ℕ) where
+  -- there is none
+  pub first-none : x ≡ 0 → firstWith f (walk next n x) ≡ 0
+  first-none e = ap (firstWith f) (walk-end next n x e)
+
+  -- this one is it
+  pub first-found : 0 < n → (x ≡ 0 → ⊥) → f x ≡ true → firstWith f (walk next n x) ≡ x
+  first-found h g e = rw (walk-step next n x h (omega arith), firstWith, e)
+
+  -- it is behind this one
+  pub first-behind : 0 < n → (x ≡ 0 → ⊥) → f x ≡ false → firstWith f (walk next n x) ≡ firstWith f (walk next (n - 1) (next x))
+  first-behind h g e = rw (walk-step next n x h (omega arith), firstWith, e)
