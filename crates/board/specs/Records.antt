@@ -51,8 +51,17 @@ taskWithLink t w = record { stat = t .stat; prio = t .prio; link = w; mptr = t .
 abbrev pub taskWithMptr : Task → ℕ → Task
 taskWithMptr t w = record { stat = t .stat; prio = t .prio; link = t .link; mptr = w; sptr = t .sptr; name = t .name }
 
+abbrev pub withStat : Message → ℕ → Message
+withStat r s = record { stat = s; prio = r .prio; link = r .link; rptr = r .rptr; sptr = r .sptr }
+
 abbrev pub withPrio : Message → ℕ → Message
 withPrio r p = record { stat = r .stat; prio = p; link = r .link; rptr = r .rptr; sptr = r .sptr }
 
 abbrev pub withLink : Message → ℕ → Message
 withLink r w = record { stat = r .stat; prio = r .prio; link = w; rptr = r .rptr; sptr = r .sptr }
+
+abbrev pub withRptr : Message → ℕ → Message
+withRptr r w = record { stat = r .stat; prio = r .prio; link = r .link; rptr = w; sptr = r .sptr }
+
+abbrev pub withSptr : Message → ℕ → Message
+withSptr r w = record { stat = r .stat; prio = r .prio; link = r .link; rptr = r .rptr; sptr = w }

@@ -1,7 +1,7 @@
 // Task and message records by value (manual 3.2 and 3.3): a record hands back itself with one field changed.
 ghost use mathlib.Core.Path.{_≡_};
 ghost use Rattle.board.specs.Status.{isPresent, isReady, stored};
-ghost use Rattle.board.specs.Records.{noTask, noMessage, taskWithStat, taskWithLink, taskWithMptr, withPrio, withLink};
+ghost use Rattle.board.specs.Records.{noTask, noMessage, taskWithStat, taskWithLink, taskWithMptr, withStat, withPrio, withLink, withRptr, withSptr};
 use crate::status::Status;
 
 pub struct Task {
@@ -86,6 +86,13 @@ impl Message {
         }
     }
 
+    pub fn with_stat(mut self, s: u8) -> Message
+        ensures { λ res. ⌜ res ≡ withStat self s ⌝ }
+    {
+        self.stat = s;
+        self
+    }
+
     pub fn with_prio(mut self, p: u8) -> Message
         ensures { λ res. ⌜ res ≡ withPrio self p ⌝ }
     {
@@ -97,6 +104,20 @@ impl Message {
         ensures { λ res. ⌜ res ≡ withLink self w ⌝ }
     {
         self.link = w;
+        self
+    }
+
+    pub fn with_rptr(mut self, w: u16) -> Message
+        ensures { λ res. ⌜ res ≡ withRptr self w ⌝ }
+    {
+        self.rptr = w;
+        self
+    }
+
+    pub fn with_sptr(mut self, w: u16) -> Message
+        ensures { λ res. ⌜ res ≡ withSptr self w ⌝ }
+    {
+        self.sptr = w;
         self
     }
 }

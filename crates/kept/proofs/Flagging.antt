@@ -199,10 +199,6 @@ module _ (z : Size) (b : Board) (order : List ℕ) (queues : ℕ → List ℕ) (
     withoutBit-other o bit BIT5 (a .4) ∙ proper-old z b order queues k p h .bit5,
   )
 
-  -- set, all but the flags stays
-  pub but-sets : StandsBut z b order queues k → StandsBut z (sets b k bit) order queues k
-  but-sets h = but-stat z b order queues k p (withBit o bit) (good-set h) h
-
   -- cleared, all but the flags stays
   pub but-clears : StandsBut z b order queues k → StandsBut z (clears b k bit) order queues k
   but-clears h = but-stat z b order queues k p (withoutBit o bit) (good-clear h) h

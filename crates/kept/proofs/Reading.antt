@@ -85,18 +85,13 @@ pub present-numbered : (b : Board) (k : ℕ) → present b k ≡ true → Number
 present-numbered b k p = nth-numbered noTask (b .tasks) k (λ e. true≢false (sym p ∙ ap isThere e))
 
 -- ---- one message written, one place written
--- it reads back
+-- a message reads back
 pub message-put : (b : Board) (m : ℕ) (r : Message) → Numbered (length (b .messages)) m → message (withMessage b m r) m ≡ r
 message-put b m r h = nth-put noMessage (b .messages) m r (h .0) (h .1)
 
 -- others read as before
 pub message-other : (b : Board) (m j : ℕ) (r : Message) → j ≢ m → message (withMessage b m r) j ≡ message b j
 message-other b m j r h = nth-put-other noMessage (b .messages) m j r h
-
--- what it has in common with the old one, each has as before
-pub message-alike : {A : Type 0} (f : Message → A) (b : Board) (m j : ℕ) (r : Message) → f r ≡ f (message b m)
-    → f (message (withMessage b m r) j) ≡ f (message b j)
-message-alike f b m j r e = nth-alike f noMessage (b .messages) m j r e
 
 -- a place reads back
 pub place-put : (b : Board) (m : ℕ) (p : Place) → Numbered (length (b .places)) m → place (withPlace b m p) m ≡ p
@@ -183,7 +178,7 @@ pub relink-keeps : {B A : Type 0} (f : B → A) (link : B → ℕ → ℕ → B)
 relink-keeps f link h b [] = refl
 relink-keeps f link h b (x ∷ q) = h (relink link b q) x (firstOf q) ∙ relink-keeps f link h b q
 
--- the first of numbers that pass, and that 0 passes with
+-- what holds of 0 and of each holds of the first
 pub first-holds : (Q : ℕ → Type 0) (q : List ℕ) → Q 0 → All Q q → Q (firstOf q)
 first-holds Q [] o a = o
 first-holds Q (x ∷ q) o a = a .0
@@ -213,13 +208,13 @@ listing-stays f g number sort x q M N h s e l = record {
   sorted = sorted-stays number sort q s (l .sorted);
 }
 
--- so does the same start
+-- so does a start that is the same
 pub listing-start : (f number : ℕ → ℕ) (x y : ℕ) (q : List ℕ) (M : ℕ → Type 0) → y ≡ x → Listing f number x q M
     → Listing f number y q M
 listing-start f number x y q M e l =
     record { chain = subst (λ (n : ℕ). Chain f n q) (sym e) (l .chain); exact = l .exact; sorted = l .sorted }
 
--- ---- a task that R2 lets be
+-- ---- a task as R2 has it
 abbrev pub Lawful : Task → Type 0
 Lawful t = (t ≡ noTask) ⊎ Proper t
 
@@ -345,10 +340,6 @@ neither false t e = (refl, e)
 -- 3: somebody runs
 pub runner-passed : (c : ℕ) → no3 c .applies ≡ false → c ≢ 0
 runner-passed c e = eqb-false c 0 e
-
--- 4: the message is one of the board's
-pub message-passed : (z : Size) (m : ℕ) → no4 z m .applies ≡ false → Numbered (z .messages) m
-message-passed z m e = outside-within (z .messages) m e
 
 held-says : (c : ℕ) (p : Place) → isHeldBy c p ≡ true → p ≡ HeldBy (taskNo c)
 held-says c Free e = absurd (true≢false (sym e))

@@ -14,7 +14,7 @@ use Rattle.board.specs.declared.records.Message.{Message}
 use Rattle.board.specs.declared.places.Place.the-variants.{Free, HeldBy, QueuedAt}
 use Rattle.board.specs.Numbers.{taskNo}
 use Rattle.board.specs.Status.{WAIT, IWAT, INTQ, MHBS, stored, has, number, fifo, withFifo}
-use Rattle.board.specs.Records.{noTask, noMessage, withPrio}
+use Rattle.board.specs.Records.{noTask, noMessage, withStat, withPrio, withRptr, withSptr}
 use Rattle.board.specs.Places.{isFree}
 use Rattle.board.specs.Board.{Board, task, message, withTask, withMessage, withPlace}
 use Rattle.paper.specs.Rules.{order, queue, emptyQueue, taskNumber, messageNumber}
@@ -39,13 +39,7 @@ ownPrio p own = cond (eqb (number p) 127) (2 * number own + p % 2) p
 
 abbrev pub addressed : Board → ℕ → ℕ → ℕ → Board
 addressed b c m r = let t = message b m in
-    withMessage b m (record {
-      stat = t .stat;
-      prio = ownPrio (t .prio) (task b c .prio);
-      link = t .link;
-      rptr = r;
-      sptr = cond (eqb (t .sptr) 0) c (t .sptr);
-    })
+    withMessage b m (withSptr (withRptr (withPrio t (ownPrio (t .prio) (task b c .prio))) r) (cond (eqb (t .sptr) 0) c (t .sptr)))
 
 abbrev pub send : Size → Board → ℕ → ℕ → ℕ → Board
 send z b c m r = placeAt z (addressed b c m r) m r
@@ -98,8 +92,7 @@ abbrev pub release : Board → ℕ → Board
 release b m = withPlace (withMessage b m noMessage) m Free
 
 abbrev pub prepare : Board → ℕ → ℕ → ℕ → ℕ → Board
-prepare b m s p sptr = let r = message b m in
-    withMessage b m (record { stat = s; prio = p; link = r .link; rptr = r .rptr; sptr = sptr })
+prepare b m s p sptr = withMessage b m (withSptr (withPrio (withStat (message b m) s) p) sptr)
 
 -- ---- Find: the first in queue order of that name
 abbrev pub find : Size → Board → ℕ → ℕ

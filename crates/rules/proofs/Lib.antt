@@ -1,4 +1,5 @@
 pub mod Visits
 pub mod Counting
+pub mod Lists
 mod Turns
 mod Tests

@@ -34,25 +34,32 @@ pub absorbed : (s t : Bool) → s && (s || t) ≡ s
 absorbed true t = refl
 absorbed false t = refl
 
--- ---- places
--- the code met another variant than QueuedAt
-pub not-queued : (p : Place) → OneOf (0 ∷ 1 ∷ 3 ∷ []) (tagOf the-type p) → isQueued p ≡ false
-not-queued Free h = refl
-not-queued (HeldBy k) h = refl
-not-queued (QueuedAt k) h = absurd (⊎-elim (λ e. omega arith) (λ i. ⊎-elim (λ e. omega arith) (λ e. omega arith) i) h)
-not-queued (Nowhere p) h = refl
+-- ---- places: the code holds the place p as q
+module _ (p q : Place) (e : q ≡ p) where
+  -- it met another variant than QueuedAt
+  pub not-queued : OneOf (0 ∷ 1 ∷ 3 ∷ []) (tagOf the-type q) → isQueued p ≡ false
+  not-queued h = ap isQueued (sym e) ∙ go q h
+    where
+      go : (q : Place) → OneOf (0 ∷ 1 ∷ 3 ∷ []) (tagOf the-type q) → isQueued q ≡ false
+      go Free i = refl
+      go (HeldBy k) i = refl
+      go (QueuedAt k) i = absurd (⊎-elim (λ f. omega arith) (λ j. ⊎-elim (λ f. omega arith) (λ f. omega arith) j) i)
+      go (Nowhere m) i = refl
 
--- what is not queued is queued at nobody
-pub queued-nowhere : (k : ℕ) (p : Place) → isQueued p ≡ false → isQueuedAt k p ≡ false
-queued-nowhere k Free e = refl
-queued-nowhere k (HeldBy r) e = refl
-queued-nowhere k (QueuedAt r) e = absurd (true≢false e)
-queued-nowhere k (Nowhere p) e = refl
+  -- so it is queued at nobody
+  pub queued-nowhere : (k : ℕ) → OneOf (0 ∷ 1 ∷ 3 ∷ []) (tagOf the-type q) → isQueuedAt k p ≡ false
+  queued-nowhere k h = go p (not-queued h)
+    where
+      go : (p : Place) → isQueued p ≡ false → isQueuedAt k p ≡ false
+      go Free i = refl
+      go (HeldBy r) i = refl
+      go (QueuedAt r) i = absurd (true≢false i)
+      go (Nowhere m) i = refl
 
--- it is queued at the task of number n, which is k or is not
-pub queued-there : (k : ℕ) (p q : Place) (r : TaskNo) (n : ℕ) → p ≡ q → p ≡ QueuedAt r → n ≡ r .0 → n ≡ k → isQueuedAt k q ≡ true
-queued-there k p q r n e h s t = ap (isQueuedAt k) (sym e ∙ h) ∙ eq-eqb (r .0) k (sym s ∙ t)
+  -- it is queued at the task of number n, which is k
+  pub queued-there : (k n : ℕ) (r : TaskNo) → q ≡ QueuedAt r → n ≡ r .0 → n ≡ k → isQueuedAt k p ≡ true
+  queued-there k n r h s t = ap (isQueuedAt k) (sym e ∙ h) ∙ eq-eqb (r .0) k (sym s ∙ t)
 
-pub queued-elsewhere : (k : ℕ) (p q : Place) (r : TaskNo) (n : ℕ) → p ≡ q → p ≡ QueuedAt r → n ≡ r .0 → (n ≡ k → ⊥)
-    → isQueuedAt k q ≡ false
-queued-elsewhere k p q r n e h s t = ap (isQueuedAt k) (sym e ∙ h) ∙ ne-eqb (r .0) k (λ i. t (s ∙ i))
+  -- or is not
+  pub queued-elsewhere : (k n : ℕ) (r : TaskNo) → q ≡ QueuedAt r → n ≡ r .0 → (n ≡ k → ⊥) → isQueuedAt k p ≡ false
+  queued-elsewhere k n r h s t = ap (isQueuedAt k) (sym e ∙ h) ∙ ne-eqb (r .0) k (λ i. t (s ∙ i))

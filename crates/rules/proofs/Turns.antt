@@ -40,6 +40,11 @@ module _ (f : ℕ → Bool) where
   each-done n k e h = sym h ∙ ap (each f) e
 
   -- ---- those that pass are counted
+  -- none so far
+  pub count-starts : 0 ≡ counted f 0
+  unfolding counted
+  count-starts = refl
+
   -- one more
   pub count-yes : (k n : ℕ) → f (k + 1) ≡ true → n ≡ counted f k → n + 1 ≡ counted f (k + 1)
   count-yes k n e h = let s : n + 1 ≡ 1 + counted f k = omega arith in s ∙ sym (counted-turn f k true e)
@@ -62,7 +67,11 @@ module _ (next number : ℕ → ℕ) (good : ℕ → Bool) where
   pub turn-on : (x low v n : ℕ) → good x ≡ true → v ≡ next x → n ≡ number x → low ≤ n → Next v n ≡ turned next number good x low
   turn-on x low v n e g h l = rw (e, le-leb low (number x) (omega arith)) (ap₂ Next g h)
 
-  -- the loop, where the walk comes to w from the link x with s records seen: it ends
+  -- the loop starts with no record seen
+  pub walk-starts : (most x first : ℕ) → x ≡ first → visited next number good (most - 0) x 0 0 ≡ visited next number good most first 0 0
+  walk-starts most x first e = ap₂ (λ (n y : ℕ). visited next number good n y 0 0) (let d : most - 0 ≡ most = omega arith in d) e
+
+  -- then the walk comes to w from the link x with s records seen: it ends
   module _ (most : ℕ) (w : Walked) (x low s : ℕ) (inv : visited next number good (most - s) x low s ≡ w) where
     pub walk-ends : x ≡ 0 → Seen s ≡ w
     walk-ends e = sym (visited-end next number good (most - s) x low s e) ∙ inv
@@ -83,16 +92,20 @@ module _ (next number : ℕ → ℕ) (good : ℕ → Bool) where
     pub walk-gives-up : most ≤ s → (x ≡ 0 → ⊥) → Broken ≡ w
     walk-gives-up h g = sym (visited-out next number good (most - s) x low s (omega arith) g) ∙ inv
 
--- ---- a walk for the first that passes
-module _ (f : ℕ → Bool) (next : ℕ → ℕ) (n x : ℕ) where
-  -- there is none
-  pub first-none : x ≡ 0 → firstWith f (walk next n x) ≡ 0
-  first-none e = ap (firstWith f) (walk-end next n x e)
+-- ---- a walk for the first that passes, which is r
+module _ (f : ℕ → Bool) (next : ℕ → ℕ) (n x r : ℕ) (inv : firstWith f (walk next n x) ≡ r) where
+  -- the links end: there is none
+  pub first-none : x ≡ 0 → 0 ≡ r
+  first-none e = ap (firstWith f) (sym (walk-end next n x e)) ∙ inv
+
+  -- no link is left to follow
+  pub first-out : n ≡ 0 → 0 ≡ r
+  first-out e = ap (λ (m : ℕ). firstWith f (walk next m x)) (sym e) ∙ inv
 
   -- this one is it
-  pub first-found : 0 < n → (x ≡ 0 → ⊥) → f x ≡ true → firstWith f (walk next n x) ≡ x
-  first-found h g e = rw (walk-step next n x h (omega arith), firstWith, e)
+  pub first-found : 0 < n → (x ≡ 0 → ⊥) → f x ≡ true → x ≡ r
+  first-found h g e = rw (← inv, walk-step next n x h (omega arith), firstWith, e)
 
   -- it is behind this one
-  pub first-behind : 0 < n → (x ≡ 0 → ⊥) → f x ≡ false → firstWith f (walk next n x) ≡ firstWith f (walk next (n - 1) (next x))
-  first-behind h g e = rw (walk-step next n x h (omega arith), firstWith, e)
+  pub first-behind : (v : ℕ) → v ≡ next x → 0 < n → (x ≡ 0 → ⊥) → f x ≡ false → firstWith f (walk next (n - 1) v) ≡ r
+  first-behind v s h g e = rw (← inv, walk-step next n x h (omega arith), firstWith, e, s)

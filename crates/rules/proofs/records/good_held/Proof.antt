@@ -1,3 +1,5 @@
+use mathlib.Core.Path.{_≡_, sym, ap, _∙_}
+use borrow.Author.Tests.{not-true, not-false, eq-eqb, ne-eqb}
 use borrow.Author.Needs.{needs}
 use Rattle.rules.proofs.records.good_held.Statement.{statement}
 use Rattle.rules.proofs.records.good_held.Tie as tie
@@ -12,11 +14,11 @@ good-pointers-requires c κs = search needs
 
 -- src/records.rt:141:9
 returns : tie.Need-returns
-returns c = ?
+returns c = rw (sym (c .before .good-pointers .ensures) ∙ not-true _ (c .if1 .taken))
 
 -- src/records.rt:144:9
 returns-2 : tie.Need-returns-2
-returns-2 c = ?
+returns-2 c = rw (sym (c .before .before .before .good-pointers .ensures) ∙ not-false _ (c .before .before .if1 .left), ne-eqb _ _ (c .if2 .taken))
 
 -- src/records.rt:146:5
 present-at-requires : tie.Need-present-at-requires
@@ -24,7 +26,7 @@ present-at-requires c κs = search needs
 
 -- src/records.rt:137:1
 returns-3 : tie.Need-returns-3
-returns-3 c = ?
+returns-3 c = rw (sym (c .before .before .before .before .good-pointers .ensures) ∙ not-false _ (c .before .before .before .if1 .left), eq-eqb _ _ (c .before .if2 .left)) (c .present-at .ensures)
 
 pub good-held-spec : {M : Type 1} → statement M
 good-held-spec =

@@ -37,15 +37,15 @@ enum-told-2 c = search needs
 
 -- src/records.rt:165:1
 returns : tie.Need-returns
-returns c = ?
+returns c = rw (c .before .enum-told .given .1) (c .zero-message .ensures)
 
 -- src/records.rt:165:1
 returns-2 : tie.Need-returns-2
-returns-2 c = ?
+returns-2 c = rw (c .before .before .p .given .1) (c .good-held .ensures)
 
 -- src/records.rt:165:1
 returns-3 : tie.Need-returns-3
-returns-3 c = ?
+returns-3 c = rw (c .before .before .p2 .given .1) (c .good-queued .ensures)
 
 -- src/records.rt:165:1
 returns-4 : tie.Need-returns-4

@@ -1,3 +1,5 @@
+use mathlib.Core.Path.{_≡_, sym, ap, _∙_}
+use borrow.Author.Tests.{not-true, not-false, lt-ltb, le-ltb}
 use borrow.Author.Needs.{needs}
 use Rattle.rules.proofs.records.good_queued.Statement.{statement}
 use Rattle.rules.proofs.records.good_queued.Tie as tie
@@ -13,7 +15,7 @@ good-pointers-requires c κs = search needs
 
 -- src/records.rt:154:9
 returns : tie.Need-returns
-returns c = ?
+returns c = rw (sym (c .before .good-pointers .ensures) ∙ not-true _ (c .if1 .taken))
 
 -- src/records.rt:156:9
 fifo-requires : tie.Need-fifo-requires
@@ -21,11 +23,11 @@ fifo-requires c κs = search needs
 
 -- src/records.rt:157:9
 returns-2 : tie.Need-returns-2
-returns-2 c = ?
+returns-2 c = rw (sym (c .before .before .before .good-pointers .ensures) ∙ not-false _ (c .before .before .if1 .left), sym (c .before .fifo .ensures) ∙ not-true _ (c .if2 .taken))
 
 -- src/records.rt:160:9
 returns-3 : tie.Need-returns-3
-returns-3 c = ?
+returns-3 c = rw (sym (c .before .before .before .before .before .good-pointers .ensures) ∙ not-false _ (c .before .before .before .before .if1 .left), sym (c .before .before .before .fifo .ensures) ∙ not-false _ (c .before .before .if2 .left), le-ltb _ _ (c .if3 .taken))
 
 -- src/records.rt:162:5
 present-at-requires : tie.Need-present-at-requires
@@ -33,7 +35,7 @@ present-at-requires c κs = search needs
 
 -- src/records.rt:150:1
 returns-4 : tie.Need-returns-4
-returns-4 c = ?
+returns-4 c = rw (sym (c .before .before .before .before .before .before .good-pointers .ensures) ∙ not-false _ (c .before .before .before .before .before .if1 .left), sym (c .before .before .before .before .fifo .ensures) ∙ not-false _ (c .before .before .before .if2 .left), lt-ltb _ _ (c .before .if3 .left)) (c .present-at .ensures)
 
 pub good-queued-spec : {M : Type 1} → statement M
 good-queued-spec =

@@ -1,3 +1,4 @@
+use mathlib.Core.Path.{_≡_, sym, ap, _∙_}
 use borrow.Author.Needs.{needs}
 use Rattle.rules.proofs.records.good_task.Statement.{statement}
 use Rattle.rules.proofs.records.good_task.Tie as tie
@@ -12,7 +13,7 @@ zero-task-requires c κs = search needs
 
 -- src/records.rt:83:9
 returns : tie.Need-returns
-returns c = ?
+returns c = rw (sym (c .before .zero-task .ensures) ∙ c .if1 .taken)
 
 -- src/records.rt:85:5
 good-head-requires : tie.Need-good-head-requires
@@ -20,7 +21,7 @@ good-head-requires c κs = search needs
 
 -- src/records.rt:79:1
 returns-2 : tie.Need-returns-2
-returns-2 c = ?
+returns-2 c = rw (sym (c .before .before .zero-task .ensures) ∙ c .before .if1 .left) (c .good-head .ensures)
 
 pub good-task-spec : {M : Type 1} → statement M
 good-task-spec = tie.close (tie.spec zero-task-requires returns good-head-requires returns-2)

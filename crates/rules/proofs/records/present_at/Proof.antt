@@ -1,3 +1,7 @@
+use mathlib.Core.Path.{_≡_, sym, ap, _∙_}
+use denote.Ref.{now}
+use Rattle.board.specs.Board.{boardOf, task}
+use Rattle.paper.specs.Rules.{isThere}
 use borrow.Author.Needs.{needs}
 use Rattle.rules.proofs.records.present_at.Statement.{statement}
 use Rattle.rules.proofs.records.present_at.Tie as tie
@@ -21,7 +25,7 @@ present-requires c κs = search needs
 
 -- src/records.rt:129:1
 returns : tie.Need-returns
-returns c = ?
+returns c = c .present .ensures ∙ ap isThere (c .before .task-meant .ensures ∙ ap (task (boardOf (c .before .before .before .before .args .z) (now (c .before .before .before .before .args .b)))) (c .before .before .number .ensures))
 
 pub present-at-spec : {M : Type 1} → statement M
 present-at-spec = tie.close (tie.spec number-requires task-meant-requires present-requires returns)

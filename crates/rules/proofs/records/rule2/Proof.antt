@@ -1,3 +1,13 @@
+use borrow.Author.Needs.{needs}
+use mathlib.Core.Path.{_≡_, refl, ap, ap₂, _∙_}
+use mathlib.Core.Bool.{true}
+use Prim.Native.Nat.{_+_, _-_, _≤_}
+use native.Mathlib.Omega.{arith}
+use denote.Ref.{now}
+use Rattle.paper.specs.Rules.{goodTask, rule2At}
+use Rattle.links.specs.Queue.{each}
+use Rattle.board.specs.Board.{boardOf}
+use Rattle.rules.proofs.Turns.{each-next, each-fails, each-done}
 use Rattle.rules.proofs.records.rule2.Statement.{statement}
 use Rattle.rules.proofs.records.rule2.Tie as tie
 use Rattle.rules.proofs.records.rule2.Reads as reads
@@ -6,42 +16,42 @@ use Rattle.board.proofs.words.task_meant.Reads as task-meant-reads
 use Rattle.rules.proofs.records.good_task.Reads as good-task-reads
 
 abbrev Inv-loop : tie.InvT-loop
-Inv-loop z b most k₀ k = ?
+Inv-loop z b most k₀ k = (k ≤ most) × (most ≡ z .tasks) × (each (rule2At (boardOf z b)) k ≡ true)
 
 abbrev μ-loop : tie.MeasureT-loop
-μ-loop z b most k₀ k = ?
+μ-loop z b most k₀ k = most - k
 
 -- src/records.rt:93:5
 loop-holds : tie.Need-loop-holds Inv-loop μ-loop
-loop-holds c = ?
+loop-holds c = (omega arith, refl, refl)
 
 -- src/records.rt:94:9
 add-k : tie.Need-add-k Inv-loop μ-loop
-add-k c = ?
+add-k c = omega arith
 
 -- src/records.rt:95:23
 task-meant-requires : tie.Need-task-meant-requires Inv-loop μ-loop
-task-meant-requires c κs = ?
+task-meant-requires c κs = search needs
 
 -- src/records.rt:95:13
 good-task-requires : tie.Need-good-task-requires Inv-loop μ-loop
-good-task-requires c κs = ?
+good-task-requires c κs = search needs
 
 -- src/records.rt:96:13
 returns : tie.Need-returns Inv-loop μ-loop
-returns c = ?
+returns c = each-fails (rule2At (boardOf (c .before .before .before .before .before .before .args .z) (now (c .before .before .before .before .before .before .args .b)))) (c .before .before .before .before .before .before .args .z .tasks) (c .before .before .before .before .loop .k) _ (omega arith) (c .before .good-task .ensures ∙ ap goodTask (c .before .before .task-meant .ensures)) (c .if1 .taken)
 
 -- src/records.rt:93:5
 loop-less : tie.Need-loop-less Inv-loop μ-loop
-loop-less c = ?
+loop-less c = omega arith
 
 -- src/records.rt:93:5
 loop-again : tie.Need-loop-again Inv-loop μ-loop
-loop-again c = ?
+loop-again c = (omega arith, c .before .before .before .before .loop .inv .1, each-next (rule2At (boardOf (c .before .before .before .before .before .before .args .z) (now (c .before .before .before .before .before .before .args .b)))) (c .before .before .before .before .loop .k) _ (c .before .good-task .ensures ∙ ap goodTask (c .before .before .task-meant .ensures)) (c .if1 .left) (c .before .before .before .before .loop .inv .2))
 
 -- src/records.rt:88:1
 returns-2 : tie.Need-returns-2 Inv-loop μ-loop
-returns-2 c = ?
+returns-2 c = each-done (rule2At (boardOf (c .before .before .before .args .z) (now (c .before .before .before .args .b)))) (c .before .before .before .args .z .tasks) (c .before .loop .k) (omega arith) (c .before .loop .inv .2)
 
 pub rule2-spec : {M : Type 1} → statement M
 rule2-spec =

@@ -1,3 +1,13 @@
+use borrow.Author.Needs.{needs}
+use mathlib.Core.Path.{_≡_, refl, ap, ap₂, _∙_}
+use mathlib.Core.Bool.{true}
+use Prim.Native.Nat.{_+_, _-_, _≤_}
+use native.Mathlib.Omega.{arith}
+use denote.Ref.{now}
+use Rattle.paper.specs.Rules.{present, goodMessage, rule4At}
+use Rattle.links.specs.Queue.{each}
+use Rattle.board.specs.Board.{boardOf}
+use Rattle.rules.proofs.Turns.{each-next, each-fails, each-done}
 use Rattle.rules.proofs.records.rule4.Statement.{statement}
 use Rattle.rules.proofs.records.rule4.Tie as tie
 use Rattle.rules.proofs.records.rule4.Reads as reads
@@ -7,46 +17,46 @@ use Rattle.board.proofs.words.place_meant.Reads as place-meant-reads
 use Rattle.rules.proofs.records.good_message.Reads as good-message-reads
 
 abbrev Inv-loop : tie.InvT-loop
-Inv-loop z b most m₀ m = ?
+Inv-loop z b most m₀ m = (m ≤ most) × (most ≡ z .messages) × (each (rule4At z (boardOf z b)) m ≡ true)
 
 abbrev μ-loop : tie.MeasureT-loop
-μ-loop z b most m₀ m = ?
+μ-loop z b most m₀ m = most - m
 
 -- src/records.rt:181:5
 loop-holds : tie.Need-loop-holds Inv-loop μ-loop
-loop-holds c = ?
+loop-holds c = (omega arith, refl, refl)
 
 -- src/records.rt:182:9
 add-m : tie.Need-add-m Inv-loop μ-loop
-add-m c = ?
+add-m c = omega arith
 
 -- src/records.rt:183:13
 message-meant-requires : tie.Need-message-meant-requires Inv-loop μ-loop
-message-meant-requires c κs = ?
+message-meant-requires c κs = search needs
 
 -- src/records.rt:184:13
 place-meant-requires : tie.Need-place-meant-requires Inv-loop μ-loop
-place-meant-requires c κs = ?
+place-meant-requires c κs = search needs
 
 -- src/records.rt:185:13
 good-message-requires : tie.Need-good-message-requires Inv-loop μ-loop
-good-message-requires c κs = ?
+good-message-requires c κs = search needs
 
 -- src/records.rt:186:13
 returns : tie.Need-returns Inv-loop μ-loop
-returns c = ?
+returns c = each-fails (rule4At (c .before .before .before .before .before .before .before .args .z) (boardOf (c .before .before .before .before .before .before .before .args .z) (now (c .before .before .before .before .before .before .before .args .b)))) (c .before .before .before .before .before .before .before .args .z .messages) (c .before .before .before .before .before .loop .m) _ (omega arith) (c .before .good-message .ensures ∙ ap₂ (goodMessage (c .before .before .before .before .before .before .before .args .z) (present (boardOf (c .before .before .before .before .before .before .before .args .z) (now (c .before .before .before .before .before .before .before .args .b))))) (c .before .before .before .message-meant .ensures) (c .before .before .place-meant .ensures)) (c .if1 .taken)
 
 -- src/records.rt:181:5
 loop-less : tie.Need-loop-less Inv-loop μ-loop
-loop-less c = ?
+loop-less c = omega arith
 
 -- src/records.rt:181:5
 loop-again : tie.Need-loop-again Inv-loop μ-loop
-loop-again c = ?
+loop-again c = (omega arith, c .before .before .before .before .before .loop .inv .1, each-next (rule4At (c .before .before .before .before .before .before .before .args .z) (boardOf (c .before .before .before .before .before .before .before .args .z) (now (c .before .before .before .before .before .before .before .args .b)))) (c .before .before .before .before .before .loop .m) _ (c .before .good-message .ensures ∙ ap₂ (goodMessage (c .before .before .before .before .before .before .before .args .z) (present (boardOf (c .before .before .before .before .before .before .before .args .z) (now (c .before .before .before .before .before .before .before .args .b))))) (c .before .before .before .message-meant .ensures) (c .before .before .place-meant .ensures)) (c .if1 .left) (c .before .before .before .before .before .loop .inv .2))
 
 -- src/records.rt:176:1
 returns-2 : tie.Need-returns-2 Inv-loop μ-loop
-returns-2 c = ?
+returns-2 c = each-done (rule4At (c .before .before .before .args .z) (boardOf (c .before .before .before .args .z) (now (c .before .before .before .args .b)))) (c .before .before .before .args .z .messages) (c .before .loop .m) (omega arith) (c .before .loop .inv .2)
 
 pub rule4-spec : {M : Type 1} → statement M
 rule4-spec =

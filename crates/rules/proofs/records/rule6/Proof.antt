@@ -1,3 +1,15 @@
+use borrow.Author.Needs.{needs}
+use mathlib.Core.Path.{_≡_, refl, ap, ap₂, _∙_}
+use mathlib.Core.Bool.{true}
+use Prim.Native.Nat.{_+_, _-_, _≤_}
+use native.Mathlib.Omega.{arith}
+use denote.Ref.{now}
+use lib.Dec.{eqb}
+use Rattle.board.specs.declared.records.Task.{Task}
+use Rattle.paper.specs.Rules.{goodFlags, rule6At}
+use Rattle.links.specs.Queue.{each}
+use Rattle.board.specs.Board.{boardOf}
+use Rattle.rules.proofs.Turns.{each-next, each-fails, each-done}
 use Rattle.rules.proofs.records.rule6.Statement.{statement}
 use Rattle.rules.proofs.records.rule6.Tie as tie
 use Rattle.rules.proofs.records.rule6.Reads as reads
@@ -6,42 +18,42 @@ use Rattle.board.proofs.words.task_meant.Reads as task-meant-reads
 use Rattle.rules.proofs.records.good_flags.Reads as good-flags-reads
 
 abbrev Inv-loop : tie.InvT-loop
-Inv-loop z b most k₀ k = ?
+Inv-loop z b most k₀ k = (k ≤ most) × (most ≡ z .tasks) × (each (rule6At (boardOf z b)) k ≡ true)
 
 abbrev μ-loop : tie.MeasureT-loop
-μ-loop z b most k₀ k = ?
+μ-loop z b most k₀ k = most - k
 
 -- src/records.rt:222:5
 loop-holds : tie.Need-loop-holds Inv-loop μ-loop
-loop-holds c = ?
+loop-holds c = (omega arith, refl, refl)
 
 -- src/records.rt:223:9
 add-k : tie.Need-add-k Inv-loop μ-loop
-add-k c = ?
+add-k c = omega arith
 
 -- src/records.rt:224:13
 task-meant-requires : tie.Need-task-meant-requires Inv-loop μ-loop
-task-meant-requires c κs = ?
+task-meant-requires c κs = search needs
 
 -- src/records.rt:225:13
 good-flags-requires : tie.Need-good-flags-requires Inv-loop μ-loop
-good-flags-requires c κs = ?
+good-flags-requires c κs = search needs
 
 -- src/records.rt:226:13
 returns : tie.Need-returns Inv-loop μ-loop
-returns c = ?
+returns c = each-fails (rule6At (boardOf (c .before .before .before .before .before .before .before .args .z) (now (c .before .before .before .before .before .before .before .args .b)))) (c .before .before .before .before .before .before .before .args .z .tasks) (c .before .before .before .before .before .loop .k) _ (omega arith) (c .before .good-flags .ensures ∙ ap (λ (t : Task). goodFlags (t .stat) (eqb (t .mptr) 0)) (c .before .before .before .task-meant .ensures)) (c .if1 .taken)
 
 -- src/records.rt:222:5
 loop-less : tie.Need-loop-less Inv-loop μ-loop
-loop-less c = ?
+loop-less c = omega arith
 
 -- src/records.rt:222:5
 loop-again : tie.Need-loop-again Inv-loop μ-loop
-loop-again c = ?
+loop-again c = (omega arith, c .before .before .before .before .before .loop .inv .1, each-next (rule6At (boardOf (c .before .before .before .before .before .before .before .args .z) (now (c .before .before .before .before .before .before .before .args .b)))) (c .before .before .before .before .before .loop .k) _ (c .before .good-flags .ensures ∙ ap (λ (t : Task). goodFlags (t .stat) (eqb (t .mptr) 0)) (c .before .before .before .task-meant .ensures)) (c .if1 .left) (c .before .before .before .before .before .loop .inv .2))
 
 -- src/records.rt:217:1
 returns-2 : tie.Need-returns-2 Inv-loop μ-loop
-returns-2 c = ?
+returns-2 c = each-done (rule6At (boardOf (c .before .before .before .args .z) (now (c .before .before .before .args .b)))) (c .before .before .before .args .z .tasks) (c .before .loop .k) (omega arith) (c .before .loop .inv .2)
 
 pub rule6-spec : {M : Type 1} → statement M
 rule6-spec =

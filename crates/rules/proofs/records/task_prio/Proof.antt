@@ -1,3 +1,5 @@
+use mathlib.Core.Path.{_≡_, sym, ap, _∙_}
+use borrow.Author.Tests.{not-true, not-false, le-leb, lt-leb}
 use borrow.Author.Needs.{needs}
 use Rattle.rules.proofs.records.task_prio.Statement.{statement}
 use Rattle.rules.proofs.records.task_prio.Tie as tie
@@ -11,15 +13,15 @@ fifo-requires c κs = search needs
 
 -- src/records.rt:59:9
 returns : tie.Need-returns
-returns c = ?
+returns c = rw (sym (c .before .fifo .ensures) ∙ not-true _ (c .if1 .taken))
 
 -- src/records.rt:62:9
 returns-2 : tie.Need-returns-2
-returns-2 c = ?
+returns-2 c = rw (sym (c .before .before .fifo .ensures) ∙ not-false _ (c .before .if1 .left), lt-leb _ _ (c .if2 .taken))
 
 -- src/records.rt:55:1
 returns-3 : tie.Need-returns-3
-returns-3 c = ?
+returns-3 c = rw (sym (c .before .before .fifo .ensures) ∙ not-false _ (c .before .if1 .left), le-leb _ _ (c .if2 .left))
 
 pub task-prio-spec : {M : Type 1} → statement M
 task-prio-spec = tie.close (tie.spec fifo-requires returns returns-2 returns-3)

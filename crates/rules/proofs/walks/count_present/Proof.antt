@@ -1,3 +1,13 @@
+use borrow.Author.Needs.{needs}
+use mathlib.Core.Path.{_≡_, refl, sym, ap, _∙_}
+use Prim.Native.Nat.{_+_, _-_, _≤_}
+use native.Mathlib.Omega.{arith}
+use denote.Ref.{now}
+use Rattle.rules.proofs.Turns.{count-starts, count-yes, count-no}
+use Rattle.rules.proofs.Counting.{counted-bound}
+use Rattle.rules.specs.Walks.{counted}
+use Rattle.board.specs.Board.{boardOf}
+use Rattle.paper.specs.Rules.{isThere, present}
 use Rattle.rules.proofs.walks.count_present.Statement.{statement}
 use Rattle.rules.proofs.walks.count_present.Tie as tie
 use Rattle.rules.proofs.walks.count_present.Reads as reads
@@ -6,50 +16,50 @@ use Rattle.board.proofs.records.Task.present.Reads as present-reads
 use Rattle.board.proofs.words.task_meant.Reads as task-meant-reads
 
 abbrev Inv-loop : tie.InvT-loop
-Inv-loop z b most k₀ n₀ k n = ?
+Inv-loop z b most k₀ n₀ k n = (k ≤ most) × (most ≡ z .tasks) × (n ≡ counted (present (boardOf z b)) k)
 
 abbrev μ-loop : tie.MeasureT-loop
-μ-loop z b most k₀ n₀ k n = ?
+μ-loop z b most k₀ n₀ k n = most - k
 
 -- src/walks.rt:76:5
 loop-holds : tie.Need-loop-holds Inv-loop μ-loop
-loop-holds c = ?
+loop-holds c = (omega arith, refl, count-starts (present (boardOf (c .before .args .z) (now (c .before .args .b)))))
 
 -- src/walks.rt:77:9
 add-k : tie.Need-add-k Inv-loop μ-loop
-add-k c = ?
+add-k c = omega arith
 
 -- src/walks.rt:78:13
 task-meant-requires : tie.Need-task-meant-requires Inv-loop μ-loop
-task-meant-requires c κs = ?
+task-meant-requires c κs = search needs
 
 -- src/walks.rt:79:12
 present-requires : tie.Need-present-requires Inv-loop μ-loop
-present-requires c κs = ?
+present-requires c κs = search needs
 
 -- src/walks.rt:80:13
 add-n : tie.Need-add-n Inv-loop μ-loop
-add-n c = ?
+add-n c = omega (arith, counted-bound (present (boardOf (c .before .before .before .before .before .before .args .z) (now (c .before .before .before .before .before .before .args .b)))) (c .before .before .before .before .loop .k))
 
 -- src/walks.rt:76:5
 loop-less : tie.Need-loop-less Inv-loop μ-loop
-loop-less c = ?
+loop-less c = omega arith
 
 -- src/walks.rt:76:5
 loop-again : tie.Need-loop-again Inv-loop μ-loop
-loop-again c = ?
+loop-again c = (omega arith, c .before .before .before .before .loop .inv .1, count-yes (present (boardOf (c .before .before .before .before .before .before .args .z) (now (c .before .before .before .before .before .before .args .b)))) (c .before .before .before .before .loop .k) (c .before .before .before .before .loop .n) (sym (c .before .present .ensures ∙ ap isThere (c .before .before .task-meant .ensures)) ∙ c .if1 .taken) (c .before .before .before .before .loop .inv .2))
 
 -- src/walks.rt:76:5
 loop-less-2 : tie.Need-loop-less-2 Inv-loop μ-loop
-loop-less-2 c = ?
+loop-less-2 c = omega arith
 
 -- src/walks.rt:76:5
 loop-again-2 : tie.Need-loop-again-2 Inv-loop μ-loop
-loop-again-2 c = ?
+loop-again-2 c = (omega arith, c .before .before .before .before .loop .inv .1, count-no (present (boardOf (c .before .before .before .before .before .before .args .z) (now (c .before .before .before .before .before .before .args .b)))) (c .before .before .before .before .loop .k) (c .before .before .before .before .loop .n) (sym (c .before .present .ensures ∙ ap isThere (c .before .before .task-meant .ensures)) ∙ c .if1 .left) (c .before .before .before .before .loop .inv .2))
 
 -- src/walks.rt:70:1
 returns : tie.Need-returns Inv-loop μ-loop
-returns c = ?
+returns c = c .before .loop .inv .2 ∙ ap (counted (present (boardOf (c .before .before .before .args .z) (now (c .before .before .before .args .b))))) (omega arith)
 
 pub count-present-spec : {M : Type 1} → statement M
 count-present-spec =

@@ -1,3 +1,13 @@
+use borrow.Author.Needs.{needs}
+use mathlib.Core.Path.{_≡_, refl, sym, ap, _∙_}
+use Prim.Native.Nat.{_+_, _-_, _≤_}
+use native.Mathlib.Omega.{arith}
+use denote.Ref.{now}
+use Rattle.rules.proofs.Turns.{count-starts, count-yes, count-no}
+use Rattle.rules.proofs.Counting.{counted-bound}
+use Rattle.rules.specs.Walks.{isQueued, queued, counted}
+use Rattle.board.specs.Board.{boardOf}
+use Rattle.rules.proofs.Tests.{not-queued}
 use Rattle.rules.proofs.walks.count_queued.Statement.{statement}
 use Rattle.rules.proofs.walks.count_queued.Tie as tie
 use Rattle.rules.proofs.walks.count_queued.Reads as reads
@@ -5,50 +15,50 @@ use Rattle.rules.proofs.walks.count_queued.Lts as lts
 use Rattle.board.proofs.words.place_meant.Reads as place-meant-reads
 
 abbrev Inv-loop : tie.InvT-loop
-Inv-loop z b most m₀ n₀ m n = ?
+Inv-loop z b most m₀ n₀ m n = (m ≤ most) × (most ≡ z .messages) × (n ≡ counted (queued (boardOf z b)) m)
 
 abbrev μ-loop : tie.MeasureT-loop
-μ-loop z b most m₀ n₀ m n = ?
+μ-loop z b most m₀ n₀ m n = most - m
 
 -- src/walks.rt:149:5
 loop-holds : tie.Need-loop-holds Inv-loop μ-loop
-loop-holds c = ?
+loop-holds c = (omega arith, refl, count-starts (queued (boardOf (c .before .args .z) (now (c .before .args .b)))))
 
 -- src/walks.rt:150:9
 add-m : tie.Need-add-m Inv-loop μ-loop
-add-m c = ?
+add-m c = omega arith
 
 -- src/walks.rt:151:13
 place-meant-requires : tie.Need-place-meant-requires Inv-loop μ-loop
-place-meant-requires c κs = ?
+place-meant-requires c κs = search needs
 
 -- src/walks.rt:153:13
 enum-told : tie.Need-enum-told Inv-loop μ-loop
-enum-told c = ?
+enum-told c = search needs
 
 -- src/walks.rt:153:13
 add-n : tie.Need-add-n Inv-loop μ-loop
-add-n c = ?
+add-n c = omega (arith, counted-bound (queued (boardOf (c .before .before .before .before .before .before .args .z) (now (c .before .before .before .before .before .before .args .b)))) (c .before .before .before .before .loop .m))
 
 -- src/walks.rt:149:5
 loop-less : tie.Need-loop-less Inv-loop μ-loop
-loop-less c = ?
+loop-less c = omega arith
 
 -- src/walks.rt:149:5
 loop-again : tie.Need-loop-again Inv-loop μ-loop
-loop-again c = ?
+loop-again c = (omega arith, c .before .before .before .before .loop .inv .1, count-yes (queued (boardOf (c .before .before .before .before .before .before .args .z) (now (c .before .before .before .before .before .before .args .b)))) (c .before .before .before .before .loop .m) (c .before .before .before .before .loop .n) (ap isQueued (sym (c .before .before .place-meant .ensures) ∙ c .enum-told .given .1)) (c .before .before .before .before .loop .inv .2))
 
 -- src/walks.rt:149:5
 loop-less-2 : tie.Need-loop-less-2 Inv-loop μ-loop
-loop-less-2 c = ?
+loop-less-2 c = omega arith
 
 -- src/walks.rt:149:5
 loop-again-2 : tie.Need-loop-again-2 Inv-loop μ-loop
-loop-again-2 c = ?
+loop-again-2 c = (omega arith, c .before .before .before .loop .inv .1, count-no (queued (boardOf (c .before .before .before .before .before .args .z) (now (c .before .before .before .before .before .args .b)))) (c .before .before .before .loop .m) (c .before .before .before .loop .n) (not-queued _ (c .before .place-meant .result) (c .before .place-meant .ensures) (c .match .keys2)) (c .before .before .before .loop .inv .2))
 
 -- src/walks.rt:143:1
 returns : tie.Need-returns Inv-loop μ-loop
-returns c = ?
+returns c = c .before .loop .inv .2 ∙ ap (counted (queued (boardOf (c .before .before .before .args .z) (now (c .before .before .before .args .b))))) (omega arith)
 
 pub count-queued-spec : {M : Type 1} → statement M
 count-queued-spec =

@@ -1,3 +1,12 @@
+use mathlib.Core.Path.{_≡_, sym, ap, _∙_}
+use denote.Ref.{now}
+use Rattle.board.specs.declared.records.Message.{Message}
+use Rattle.board.specs.Status.{number}
+use Rattle.board.specs.Board.{boardOf}
+use Rattle.paper.specs.Rules.{nextMessage, messageNumber}
+use Rattle.rules.specs.Walks.{queuedAt}
+use Rattle.rules.proofs.Tests.{queued-nowhere, queued-there, queued-elsewhere}
+use Rattle.rules.proofs.Turns.{turn-stray, turn-falls, turn-on}
 use borrow.Author.Needs.{needs}
 use Rattle.rules.proofs.walks.message_turn.Statement.{statement}
 use Rattle.rules.proofs.walks.message_turn.Tie as tie
@@ -18,7 +27,7 @@ enum-known-p c = search needs
 
 -- src/walks.rt:101:9
 returns : tie.Need-returns
-returns c = ?
+returns c = turn-stray (nextMessage (boardOf (c .before .before .before .args .z) (now (c .before .before .before .args .b)))) (messageNumber (boardOf (c .before .before .before .args .z) (now (c .before .before .before .args .b)))) (queuedAt (boardOf (c .before .before .before .args .z) (now (c .before .before .before .args .b))) (c .before .before .before .args .k)) (c .before .before .before .args .m) (c .before .before .before .args .low) (queued-nowhere _ (c .before .place-meant .result) (c .before .place-meant .ensures) (c .before .before .before .args .k) (c .match .keys2))
 
 -- src/walks.rt:103:8
 number-requires : tie.Need-number-requires
@@ -26,7 +35,7 @@ number-requires c κs = search needs
 
 -- src/walks.rt:104:9
 returns-2 : tie.Need-returns-2
-returns-2 c = ?
+returns-2 c = turn-stray (nextMessage (boardOf (c .before .before .before .before .before .before .before .args .z) (now (c .before .before .before .before .before .before .before .args .b)))) (messageNumber (boardOf (c .before .before .before .before .before .before .before .args .z) (now (c .before .before .before .before .before .before .before .args .b)))) (queuedAt (boardOf (c .before .before .before .before .before .before .before .args .z) (now (c .before .before .before .before .before .before .before .args .b))) (c .before .before .before .before .before .before .before .args .k)) (c .before .before .before .before .before .before .before .args .m) (c .before .before .before .before .before .before .before .args .low) (queued-elsewhere _ (c .before .before .before .before .before .place-meant .result) (c .before .before .before .before .before .place-meant .ensures) (c .before .before .before .before .before .before .before .args .k) _ _ (c .before .before .before .p .given .1) (c .before .number .ensures) (c .if1 .taken))
 
 -- src/walks.rt:106:9
 message-meant-requires : tie.Need-message-meant-requires
@@ -38,11 +47,11 @@ number-requires-2 c κs = search needs
 
 -- src/walks.rt:109:9
 returns-3 : tie.Need-returns-3
-returns-3 c = ?
+returns-3 c = turn-falls (nextMessage (boardOf (c .before .before .before .before .before .before .before .before .before .before .args .z) (now (c .before .before .before .before .before .before .before .before .before .before .args .b)))) (messageNumber (boardOf (c .before .before .before .before .before .before .before .before .before .before .args .z) (now (c .before .before .before .before .before .before .before .before .before .before .args .b)))) (queuedAt (boardOf (c .before .before .before .before .before .before .before .before .before .before .args .z) (now (c .before .before .before .before .before .before .before .before .before .before .args .b))) (c .before .before .before .before .before .before .before .before .before .before .args .k)) (c .before .before .before .before .before .before .before .before .before .before .args .m) (c .before .before .before .before .before .before .before .before .before .before .args .low) _ (queued-there _ (c .before .before .before .before .before .before .before .before .place-meant .result) (c .before .before .before .before .before .before .before .before .place-meant .ensures) (c .before .before .before .before .before .before .before .before .before .before .args .k) _ _ (c .before .before .before .before .before .before .p .given .1) (c .before .before .before .before .number .ensures) (c .before .before .before .if1 .left)) (c .before .number2 .ensures ∙ ap (λ (r : Message). number (r .prio)) (c .before .before .message-meant .ensures)) (c .if2 .taken)
 
 -- src/walks.rt:96:1
 returns-4 : tie.Need-returns-4
-returns-4 c = ?
+returns-4 c = turn-on (nextMessage (boardOf (c .before .before .before .before .before .before .before .before .before .before .args .z) (now (c .before .before .before .before .before .before .before .before .before .before .args .b)))) (messageNumber (boardOf (c .before .before .before .before .before .before .before .before .before .before .args .z) (now (c .before .before .before .before .before .before .before .before .before .before .args .b)))) (queuedAt (boardOf (c .before .before .before .before .before .before .before .before .before .before .args .z) (now (c .before .before .before .before .before .before .before .before .before .before .args .b))) (c .before .before .before .before .before .before .before .before .before .before .args .k)) (c .before .before .before .before .before .before .before .before .before .before .args .m) (c .before .before .before .before .before .before .before .before .before .before .args .low) _ _ (queued-there _ (c .before .before .before .before .before .before .before .before .place-meant .result) (c .before .before .before .before .before .before .before .before .place-meant .ensures) (c .before .before .before .before .before .before .before .before .before .before .args .k) _ _ (c .before .before .before .before .before .before .p .given .1) (c .before .before .before .before .number .ensures) (c .before .before .before .if1 .left)) (ap (λ (r : Message). r .link) (c .before .before .message-meant .ensures)) (c .before .number2 .ensures ∙ ap (λ (r : Message). number (r .prio)) (c .before .before .message-meant .ensures)) (c .if2 .left)
 
 pub message-turn-spec : {M : Type 1} → statement M
 message-turn-spec =

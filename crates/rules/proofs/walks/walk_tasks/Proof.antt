@@ -1,3 +1,12 @@
+use borrow.Author.Needs.{needs}
+use mathlib.Core.Path.{_≡_, refl, sym, ap, _∙_}
+use Prim.Native.Nat.{ℕ, _+_, _-_, _≤_}
+use native.Mathlib.Omega.{arith}
+use denote.Ref.{now}
+use Rattle.rules.proofs.Turns.{walk-starts, walk-ends, walk-strays, walk-goes-on, walk-gives-up}
+use Rattle.board.specs.Board.{boardOf}
+use Rattle.paper.specs.Rules.{present, nextTask, taskNumber}
+use Rattle.rules.specs.Walks.{visited}
 use Rattle.rules.proofs.walks.walk_tasks.Statement.{statement}
 use Rattle.rules.proofs.walks.walk_tasks.Tie as tie
 use Rattle.rules.proofs.walks.walk_tasks.Reads as reads
@@ -6,66 +15,66 @@ use Rattle.board.proofs.bytes.first_task.Reads as first-task-reads
 use Rattle.rules.proofs.walks.task_turn.Reads as task-turn-reads
 
 abbrev Inv-loop : tie.InvT-loop
-Inv-loop z b most link₀ low₀ seen₀ link low seen = ?
+Inv-loop z b most link₀ low₀ seen₀ link low seen = (seen ≤ most) × (most ≡ z .messages) × (visited (nextTask (boardOf z b)) (taskNumber (boardOf z b)) (present (boardOf z b)) (z .messages - seen) link low seen ≡ visited (nextTask (boardOf z b)) (taskNumber (boardOf z b)) (present (boardOf z b)) (z .messages) (boardOf z b .first) 0 0)
 
 abbrev μ-loop : tie.MeasureT-loop
-μ-loop z b most link₀ low₀ seen₀ link low seen = ?
+μ-loop z b most link₀ low₀ seen₀ link low seen = most - seen
 
 -- src/walks.rt:48:16
 cast-most : tie.Need-cast-most Inv-loop μ-loop
-cast-most c = ?
+cast-most c = search needs
 
 -- src/walks.rt:49:20
 first-task-requires : tie.Need-first-task-requires Inv-loop μ-loop
-first-task-requires c κs = ?
+first-task-requires c κs = search needs
 
 -- src/walks.rt:49:20
 cast-link : tie.Need-cast-link Inv-loop μ-loop
-cast-link c = ?
+cast-link c = search needs
 
 -- src/walks.rt:52:5
 loop-holds : tie.Need-loop-holds Inv-loop μ-loop
-loop-holds c = ?
+loop-holds c = (omega arith, refl, walk-starts (nextTask (boardOf (c .before .before .before .args .z) (now (c .before .before .before .args .b)))) (taskNumber (boardOf (c .before .before .before .args .z) (now (c .before .before .before .args .b)))) (present (boardOf (c .before .before .before .args .z) (now (c .before .before .before .args .b)))) (c .before .before .before .args .z .messages) _ _ (c .first-task .ensures))
 
 -- src/walks.rt:54:13
 returns : tie.Need-returns Inv-loop μ-loop
-returns c = ?
+returns c = walk-ends (nextTask (boardOf (c .before .before .before .before .before .before .args .z) (now (c .before .before .before .before .before .before .args .b)))) (taskNumber (boardOf (c .before .before .before .before .before .before .args .z) (now (c .before .before .before .before .before .before .args .b)))) (present (boardOf (c .before .before .before .before .before .before .args .z) (now (c .before .before .before .before .before .before .args .b)))) (c .before .before .before .before .before .before .args .z .messages) _ (c .before .before .loop .link) (c .before .before .loop .low) (c .before .before .loop .seen) (c .before .before .loop .inv .2) (c .if1 .taken)
 
 -- src/walks.rt:56:13
 task-turn-requires : tie.Need-task-turn-requires Inv-loop μ-loop
-task-turn-requires c κs = ?
+task-turn-requires c κs = search needs
 
 -- src/walks.rt:57:32
 enum-known-turn : tie.Need-enum-known-turn Inv-loop μ-loop
-enum-known-turn c = ?
+enum-known-turn c = search needs
 
 -- src/walks.rt:58:13
 enum-told : tie.Need-enum-told Inv-loop μ-loop
-enum-told c = ?
+enum-told c = search needs
 
 -- src/walks.rt:58:13
 returns-2 : tie.Need-returns-2 Inv-loop μ-loop
-returns-2 c = ?
+returns-2 c = walk-strays (nextTask (boardOf (c .before .before .before .before .before .before .before .before .before .args .z) (now (c .before .before .before .before .before .before .before .before .before .args .b)))) (taskNumber (boardOf (c .before .before .before .before .before .before .before .before .before .args .z) (now (c .before .before .before .before .before .before .before .before .before .args .b)))) (present (boardOf (c .before .before .before .before .before .before .before .before .before .args .z) (now (c .before .before .before .before .before .before .before .before .before .args .b)))) (c .before .before .before .before .before .before .before .before .before .args .z .messages) _ (c .before .before .before .before .before .loop .link) (c .before .before .before .before .before .loop .low) (c .before .before .before .before .before .loop .seen) (c .before .before .before .before .before .loop .inv .2) (omega arith) (c .before .before .before .if1 .left) (sym (c .enum-told .given .1) ∙ c .before .before .task-turn .ensures)
 
 -- src/walks.rt:62:9
 add-seen : tie.Need-add-seen Inv-loop μ-loop
-add-seen c = ?
+add-seen c = omega arith
 
 -- src/walks.rt:52:5
 loop-less : tie.Need-loop-less Inv-loop μ-loop
-loop-less c = ?
+loop-less c = omega arith
 
 -- src/walks.rt:52:5
 loop-again : tie.Need-loop-again Inv-loop μ-loop
-loop-again c = ?
+loop-again c = (omega arith, c .before .before .before .before .before .before .loop .inv .1, walk-goes-on (nextTask (boardOf (c .before .before .before .before .before .before .before .before .before .before .args .z) (now (c .before .before .before .before .before .before .before .before .before .before .args .b)))) (taskNumber (boardOf (c .before .before .before .before .before .before .before .before .before .before .args .z) (now (c .before .before .before .before .before .before .before .before .before .before .args .b)))) (present (boardOf (c .before .before .before .before .before .before .before .before .before .before .args .z) (now (c .before .before .before .before .before .before .before .before .before .before .args .b)))) (c .before .before .before .before .before .before .before .before .before .before .args .z .messages) _ (c .before .before .before .before .before .before .loop .link) (c .before .before .before .before .before .before .loop .low) (c .before .before .before .before .before .before .loop .seen) (c .before .before .before .before .before .before .loop .inv .2) _ _ (omega arith) (c .before .before .before .before .if1 .left) (sym (c .before .turn .given .1) ∙ c .before .before .before .task-turn .ensures))
 
 -- src/walks.rt:65:9
 returns-3 : tie.Need-returns-3 Inv-loop μ-loop
-returns-3 c = ?
+returns-3 c = walk-ends (nextTask (boardOf (c .before .before .before .before .before .before .args .z) (now (c .before .before .before .before .before .before .args .b)))) (taskNumber (boardOf (c .before .before .before .before .before .before .args .z) (now (c .before .before .before .before .before .before .args .b)))) (present (boardOf (c .before .before .before .before .before .before .args .z) (now (c .before .before .before .before .before .before .args .b)))) (c .before .before .before .before .before .before .args .z .messages) _ (c .before .before .loop .link) (c .before .before .loop .low) (c .before .before .loop .seen) (c .before .before .loop .inv .2) (c .if2 .taken)
 
 -- src/walks.rt:45:1
 returns-4 : tie.Need-returns-4 Inv-loop μ-loop
-returns-4 c = ?
+returns-4 c = walk-gives-up (nextTask (boardOf (c .before .before .before .before .before .before .args .z) (now (c .before .before .before .before .before .before .args .b)))) (taskNumber (boardOf (c .before .before .before .before .before .before .args .z) (now (c .before .before .before .before .before .before .args .b)))) (present (boardOf (c .before .before .before .before .before .before .args .z) (now (c .before .before .before .before .before .before .args .b)))) (c .before .before .before .before .before .before .args .z .messages) _ (c .before .before .loop .link) (c .before .before .loop .low) (c .before .before .loop .seen) (c .before .before .loop .inv .2) (omega arith) (c .if2 .left)
 
 pub walk-tasks-spec : {M : Type 1} → statement M
 walk-tasks-spec =

@@ -1,3 +1,15 @@
+use borrow.Author.Needs.{needs}
+use mathlib.Core.Path.{_≡_, refl, sym, ap, _∙_}
+use Prim.Native.Nat.{ℕ}
+use native.Mathlib.Omega.{arith}
+use denote.Ref.{now}
+use Rattle.links.specs.Queue.{walk, firstWith}
+use Rattle.board.specs.Numbers.{taskMeant}
+use Rattle.board.specs.Board.{boardOf}
+use Rattle.paper.specs.Rules.{nextTask, ready, running}
+use Rattle.board.specs.declared.records.Task.{Task}
+use Rattle.board.specs.Status.{isReady}
+use Rattle.rules.proofs.Turns.{first-none, first-out, first-found, first-behind}
 use Rattle.rules.proofs.who.running.Statement.{statement}
 use Rattle.rules.proofs.who.running.Tie as tie
 use Rattle.rules.proofs.who.running.Reads as reads
@@ -8,58 +20,58 @@ use Rattle.board.proofs.records.Task.ready.Reads as ready-reads
 use Rattle.board.proofs.words.task_meant.Reads as task-meant-reads
 
 abbrev Inv-loop : tie.InvT-loop
-Inv-loop z b k₀ left₀ k left = ?
+Inv-loop z b k₀ left₀ k left = firstWith (ready (boardOf z b)) (walk (nextTask (boardOf z b)) left k) ≡ running z (boardOf z b)
 
 abbrev μ-loop : tie.MeasureT-loop
-μ-loop z b k₀ left₀ k left = ?
+μ-loop z b k₀ left₀ k left = left
 
 -- src/who.rt:18:17
 first-task-requires : tie.Need-first-task-requires Inv-loop μ-loop
-first-task-requires c κs = ?
+first-task-requires c κs = search needs
 
 -- src/who.rt:18:17
 cast-k : tie.Need-cast-k Inv-loop μ-loop
-cast-k c = ?
+cast-k c = search needs
 
 -- src/who.rt:20:5
 loop-holds : tie.Need-loop-holds Inv-loop μ-loop
-loop-holds c = ?
+loop-holds c = ap (λ (x : ℕ). firstWith (ready (boardOf (c .before .before .args .z) (now (c .before .before .args .b)))) (walk (nextTask (boardOf (c .before .before .args .z) (now (c .before .before .args .b)))) (c .before .before .args .z .messages) x)) (c .first-task .ensures)
 
 -- src/who.rt:22:13
 returns : tie.Need-returns Inv-loop μ-loop
-returns c = ?
+returns c = ap (taskMeant (c .before .before .before .before .before .args .z)) (first-none (ready (boardOf (c .before .before .before .before .before .args .z) (now (c .before .before .before .before .before .args .b)))) (nextTask (boardOf (c .before .before .before .before .before .args .z) (now (c .before .before .before .before .before .args .b)))) (c .before .before .loop .left) (c .before .before .loop .k) _ (c .before .before .loop .inv) (c .if1 .taken))
 
 -- src/who.rt:24:13
 task-meant-requires : tie.Need-task-meant-requires Inv-loop μ-loop
-task-meant-requires c κs = ?
+task-meant-requires c κs = search needs
 
 -- src/who.rt:25:12
 ready-requires : tie.Need-ready-requires Inv-loop μ-loop
-ready-requires c κs = ?
+ready-requires c κs = search needs
 
 -- src/who.rt:26:13
 meant-requires : tie.Need-meant-requires Inv-loop μ-loop
-meant-requires c κs = ?
+meant-requires c κs = search needs
 
 -- src/who.rt:26:13
 returns-2 : tie.Need-returns-2 Inv-loop μ-loop
-returns-2 c = ?
+returns-2 c = c .meant .ensures ∙ ap (taskMeant (c .before .before .before .before .before .before .before .before .before .args .z)) (first-found (ready (boardOf (c .before .before .before .before .before .before .before .before .before .args .z) (now (c .before .before .before .before .before .before .before .before .before .args .b)))) (nextTask (boardOf (c .before .before .before .before .before .before .before .before .before .args .z) (now (c .before .before .before .before .before .before .before .before .before .args .b)))) (c .before .before .before .before .before .before .loop .left) (c .before .before .before .before .before .before .loop .k) _ (c .before .before .before .before .before .before .loop .inv) (c .before .before .before .before .before .loop-test .taken) (c .before .before .before .before .if1 .left) (sym (c .before .before .ready .ensures ∙ ap (λ (t : Task). isReady (t .stat)) (c .before .before .before .task-meant .ensures)) ∙ c .before .if2 .taken))
 
 -- src/who.rt:29:9
 sub-left : tie.Need-sub-left Inv-loop μ-loop
-sub-left c = ?
+sub-left c = search needs
 
 -- src/who.rt:20:5
 loop-less : tie.Need-loop-less Inv-loop μ-loop
-loop-less c = ?
+loop-less c = search needs
 
 -- src/who.rt:20:5
 loop-again : tie.Need-loop-again Inv-loop μ-loop
-loop-again c = ?
+loop-again c = first-behind (ready (boardOf (c .before .before .before .before .before .before .before .before .args .z) (now (c .before .before .before .before .before .before .before .before .args .b)))) (nextTask (boardOf (c .before .before .before .before .before .before .before .before .args .z) (now (c .before .before .before .before .before .before .before .before .args .b)))) (c .before .before .before .before .before .loop .left) (c .before .before .before .before .before .loop .k) _ (c .before .before .before .before .before .loop .inv) _ (ap (λ (t : Task). t .link) (c .before .before .task-meant .ensures)) (c .before .before .before .before .loop-test .taken) (c .before .before .before .if1 .left) (sym (c .before .ready .ensures ∙ ap (λ (t : Task). isReady (t .stat)) (c .before .before .task-meant .ensures)) ∙ c .if2 .left)
 
 -- src/who.rt:15:1
 returns-3 : tie.Need-returns-3 Inv-loop μ-loop
-returns-3 c = ?
+returns-3 c = ap (taskMeant (c .before .before .before .before .args .z)) (first-out (ready (boardOf (c .before .before .before .before .args .z) (now (c .before .before .before .before .args .b)))) (nextTask (boardOf (c .before .before .before .before .args .z) (now (c .before .before .before .before .args .b)))) (c .before .loop .left) (c .before .loop .k) _ (c .before .loop .inv) (omega arith))
 
 pub running-spec : {M : Type 1} → statement M
 running-spec =

@@ -1,0 +1,233 @@
+-- A board that fits is its bytes: read again it is the same board; its bytes are bytes, as many as the size says; and a board
+-- that is read from such bytes fits.
+-- Assumes nothing.
+use mathlib.Core.Path.{_≡_, refl, sym, ap, ap₂, _∙_, subst}
+use mathlib.Core.Bool.{Bool, true, false}
+use mathlib.Core.List.{List, [], _∷_, _++_, map, append-nil, append-assoc}
+use Prim.Native.Nat.{ℕ, suc, _+_, _-_, _*_, _/_, _%_, _<_}
+use native.Mathlib.Nat.{mul-suc, mul-zero, mod-eq-of-lt}
+use native.Mathlib.Omega.{arith}
+use lib.Dec.{eqb, lit<}
+use lib.ListN.{length, getD, take, drop, length-append, length-drop}
+use lib.Seq.{drop-drop, take-at, drop-at, length-take-le}
+use borrow.Author.Tests.{eqb-true}
+use Rattle.links.specs.Chain.{All}
+use Rattle.board.specs.declared.numbers.Size.{Size}
+use Rattle.board.specs.declared.records.Task.{Task}
+use Rattle.board.specs.declared.records.Message.{Message}
+use Rattle.board.specs.declared.places.Place.{Place}
+use Rattle.board.specs.declared.places.Place.the-variants.{Free}
+use Rattle.board.specs.Numbers.{outside}
+use Rattle.board.specs.Records.{wordAt, taskOf, taskBytes, noTask, messageOf, messageBytes, noMessage}
+use Rattle.board.specs.Places.{placeOf, placeByte, placeIn, placeBytes}
+use Rattle.board.specs.Board.{Area, Board, taskArea, messageArea, placeArea, cut, join, pieces, boardOf, bytesOf, nth}
+use Rattle.board.proofs.Numbered.{nth-map}
+use Rattle.board.proofs.Pieces.{outside-within, nth-outside, length-pieces, piece-byte}
+use Rattle.board.proofs.Codec.{Small, small-at, task-back, message-back, length-tasks, length-messages, length-places}
+use Rattle.kept.specs.Stands.{Byte, Word, FitsTask, FitsMessage, Fits}
+use Rattle.kept.specs.Claims.{Bytes}
+use Rattle.kept.proofs.Reading.{cond-holds, FitsPlace}
+
+-- ---- records written one behind the other
+module _ {A : Type 0} (bytes : A → List ℕ) (w : ℕ) (long : (x : A) → length (bytes x) ≡ w) where
+  -- they are as long as so many are
+  length-records : (l : List A) → length (join (map bytes l)) ≡ w * length l
+  length-records [] = sym (mul-zero w)
+  length-records (x ∷ l) =
+      omega (arith, length-append (bytes x) (join (map bytes l)), long x, length-records l, mul-suc w (length l))
+
+  -- read again they are the same, where each is
+  records-back : (of : List ℕ → A) (none : A) (l : List A) (rest : List ℕ)
+      → ((i : ℕ) → of (bytes (getD l i none)) ≡ getD l i none) → map of (cut (length l) w (join (map bytes l) ++ rest)) ≡ l
+  records-back of none [] rest h = refl
+  records-back of none (x ∷ l) rest h =
+      let j : List ℕ = join (map bytes l) ++ rest in
+      let e : join (map bytes (x ∷ l)) ++ rest ≡ bytes x ++ j = append-assoc (bytes x) (join (map bytes l)) rest in
+      ap (λ (y : List ℕ). of (take w y) ∷ map of (cut (length l) w (drop w y))) e
+      ∙ ap₂ (λ (p q : List ℕ). of p ∷ map of (cut (length l) w q)) (take-at (bytes x) j w (long x))
+      (drop-at (bytes x) j w (long x))
+      ∙ ap₂ _∷_ (h 0) (records-back of none l rest (λ i. h (suc i)))
+
+  -- so they are where r starts with them
+  records-read : (of : List ℕ → A) (none : A) (l : List A) (r rest : List ℕ) (n : ℕ) → length l ≡ n
+      → r ≡ join (map bytes l) ++ rest → ((i : ℕ) → of (bytes (getD l i none)) ≡ getD l i none) → map of (cut n w r) ≡ l
+  records-read of none l r rest n e d h =
+      ap₂ (λ (k : ℕ) (y : List ℕ). map of (cut k w y)) (sym e) d ∙ records-back of none l rest h
+
+-- ---- numbers below 256
+small-append : (l r : List ℕ) → Small l → Small r → Small (l ++ r)
+small-append [] r h g = g
+small-append (x ∷ l) r h g = (h .0, small-append l r (h .1) g)
+
+small-zeros : (l : List ℕ) → All (λ x. x ≡ 0) l → Small l
+small-zeros [] h = tt
+small-zeros (x ∷ l) h = (rw (h .0) (lit< tt), small-zeros l (h .1))
+
+small-records : {A : Type 0} (bytes : A → List ℕ) (none : A) (l : List A) → ((i : ℕ) → Small (bytes (getD l i none)))
+    → Small (join (map bytes l))
+small-records bytes none [] h = tt
+small-records bytes none (x ∷ l) h =
+    small-append (bytes x) (join (map bytes l)) (h 0) (small-records bytes none l (λ i. h (suc i)))
+
+-- the two bytes of a word
+word-halves : (n : ℕ) → Word n → Byte (n % 256) × Byte (n / 256)
+word-halves n h = (omega arith, omega arith)
+
+small-task : (t : Task) → FitsTask t → Small (taskBytes t)
+small-task t f =
+    let l = word-halves (t .link) (f .link) in
+    let m = word-halves (t .mptr) (f .mptr) in
+    let s = word-halves (t .sptr) (f .sptr) in
+    let n = word-halves (t .name) (f .name) in
+    (f .stat, (f .prio, (l .0, (l .1, (m .0, (m .1, (s .0, (s .1, (n .0, (n .1, tt))))))))))
+
+small-message : (r : Message) → FitsMessage r → Small (messageBytes r)
+small-message r f =
+    let l = word-halves (r .link) (f .link) in
+    let p = word-halves (r .rptr) (f .rptr) in
+    let s = word-halves (r .sptr) (f .sptr) in
+    (f .stat, (f .prio, (l .0, (l .1, (p .0, (p .1, (s .0, (s .1, tt))))))))
+
+-- ---- from the board to its bytes
+module _ (z : Size) (b : Board) (f : Fits z b) where
+  abbrev ts : List ℕ
+  ts = join (map taskBytes (b .tasks))
+
+  abbrev ms : List ℕ
+  ms = join (map messageBytes (b .messages))
+
+  abbrev ps : List ℕ
+  ps = join (map placeBytes (b .places))
+
+  long-tasks : length ts ≡ 10 * z .tasks
+  long-tasks = length-records taskBytes 10 (λ t. refl) (b .tasks) ∙ ap (λ (n : ℕ). 10 * n) (f .tasks)
+
+  long-messages : length ms ≡ 8 * z .messages
+  long-messages = length-records messageBytes 8 (λ r. refl) (b .messages) ∙ ap (λ (n : ℕ). 8 * n) (f .messages)
+
+  long-places : length ps ≡ 1 * z .messages
+  long-places = length-records placeBytes 1 (λ p. refl) (b .places) ∙ ap (λ (n : ℕ). 1 * n) (f .places)
+
+  behind-zeros : drop 4 (bytesOf b) ≡ ts ++ (ms ++ ps)
+  behind-zeros = drop-at (b .zeros) (ts ++ (ms ++ ps)) 3 (f .zeros)
+
+  behind-tasks : drop (4 + 10 * z .tasks) (bytesOf b) ≡ ms ++ ps
+  behind-tasks =
+      sym (drop-drop (10 * z .tasks) 4 (bytesOf b)) ∙ ap (drop (10 * z .tasks)) behind-zeros
+      ∙ drop-at ts (ms ++ ps) (10 * z .tasks) long-tasks
+
+  behind-messages : drop (4 + 10 * z .tasks + 8 * z .messages) (bytesOf b) ≡ ps ++ []
+  behind-messages =
+      sym (drop-drop (8 * z .messages) (4 + 10 * z .tasks) (bytesOf b)) ∙ ap (drop (8 * z .messages)) behind-tasks
+      ∙ drop-at ms ps (8 * z .messages) long-messages ∙ sym (append-nil ps)
+
+  place-back : (p : Place) → FitsPlace z p → placeIn z (placeBytes p) ≡ p
+  place-back p h = ap (placeOf z) (mod-eq-of-lt (h .0)) ∙ h .1
+
+  -- read again it is the same board
+  pub board-bytes : boardOf z (bytesOf b) ≡ b
+  board-bytes =
+      let zs = take-at (b .zeros) (ts ++ (ms ++ ps)) 3 (f .zeros) in
+      let t = records-read taskBytes 10 (λ t. refl) taskOf noTask (b .tasks) (drop 4 (bytesOf b)) (ms ++ ps) (z .tasks) (f .tasks)
+      behind-zeros (λ i. task-back (getD (b .tasks) i noTask)) in
+      let m = records-read messageBytes 8 (λ r. refl) messageOf noMessage (b .messages) (drop (4 + 10 * z .tasks) (bytesOf b)) ps
+      (z .messages) (f .messages) behind-tasks (λ i. message-back (getD (b .messages) i noMessage)) in
+      let p = records-read placeBytes 1 (λ p. refl) (placeIn z) Free (b .places)
+      (drop (4 + 10 * z .tasks + 8 * z .messages) (bytesOf b)) [] (z .messages) (f .places) behind-messages
+      (λ i. place-back (getD (b .places) i Free) (f .place (suc i))) in
+      λ i. record { first = b .first; zeros = zs i; tasks = t i; messages = m i; places = p i }
+
+  small-place : (p : Place) → FitsPlace z p → Small (placeBytes p)
+  small-place p h = (omega arith, tt)
+
+  small-whole : All (λ x. x ≡ 0) (b .zeros) → Small (bytesOf b)
+  small-whole h =
+      let t = small-records taskBytes noTask (b .tasks) (λ i. small-task (getD (b .tasks) i noTask) (f .task (suc i))) in
+      let m = small-records messageBytes noMessage (b .messages)
+      (λ i. small-message (getD (b .messages) i noMessage) (f .message (suc i))) in
+      let p = small-records placeBytes Free (b .places) (λ i. small-place (getD (b .places) i Free) (f .place (suc i))) in (
+        f .first,
+        small-append (b .zeros) (ts ++ (ms ++ ps)) (small-zeros (b .zeros) h)
+            (small-append ts (ms ++ ps) t (small-append ms ps m p)),
+      )
+
+  -- with R1 its bytes are bytes, and as many as the size says
+  pub bytes-fit : All (λ x. x ≡ 0) (b .zeros) → Bytes z (bytesOf b)
+  bytes-fit h = record {
+    long = omega (
+      arith,
+      length-append (b .zeros) (ts ++ (ms ++ ps)),
+      length-append ts (ms ++ ps),
+      length-append ms ps,
+      f .zeros,
+      long-tasks,
+      long-messages,
+      long-places,
+    );
+    bytes = λ i. small-at (bytesOf b) i (small-whole h);
+  }
+
+-- ---- from bytes to their board
+fits-word : (p : List ℕ) (i : ℕ) → Byte (getD p i 0) → Byte (getD p (i + 1) 0) → Word (wordAt p i)
+fits-word p i l h = omega arith
+
+fits-taskOf : (p : List ℕ) → ((i : ℕ) → i < 10 → Byte (getD p i 0)) → FitsTask (taskOf p)
+fits-taskOf p h = record {
+  stat = h 0 (lit< tt);
+  prio = h 1 (lit< tt);
+  link = fits-word p 2 (h 2 (lit< tt)) (h 3 (lit< tt));
+  mptr = fits-word p 4 (h 4 (lit< tt)) (h 5 (lit< tt));
+  sptr = fits-word p 6 (h 6 (lit< tt)) (h 7 (lit< tt));
+  name = fits-word p 8 (h 8 (lit< tt)) (h 9 (lit< tt));
+}
+
+fits-messageOf : (p : List ℕ) → ((i : ℕ) → i < 8 → Byte (getD p i 0)) → FitsMessage (messageOf p)
+fits-messageOf p h = record {
+  stat = h 0 (lit< tt);
+  prio = h 1 (lit< tt);
+  link = fits-word p 2 (h 2 (lit< tt)) (h 3 (lit< tt));
+  rptr = fits-word p 4 (h 4 (lit< tt)) (h 5 (lit< tt));
+  sptr = fits-word p 6 (h 6 (lit< tt)) (h 7 (lit< tt));
+}
+
+-- the byte of a place is the byte that it was read from
+place-byte : (z : Size) (p : ℕ) → placeByte (placeOf z p) ≡ p
+place-byte z p =
+    let P : Place → Type 0 = λ x. placeByte x ≡ p in
+    cond-holds P (eqb p 0) _ _ (λ e. sym (eqb-true p 0 e))
+    (λ e. cond-holds P (outside (z .tasks) p) _ _
+    (λ o. cond-holds P (outside (z .tasks) (p - 64)) _ _ (λ h. refl)
+    (λ h. omega (arith, outside-within (z .tasks) (p - 64) h .0))) (λ o. refl))
+
+fits-placeOf : (z : Size) (p : ℕ) → Byte p → FitsPlace z (placeOf z p)
+fits-placeOf z p h = (subst Byte (sym (place-byte z p)) h, ap (placeOf z) (place-byte z p))
+
+module _ (z : Size) (l : List ℕ) (h : Bytes z l) where
+  -- a record's bytes are bytes
+  piece-bytes : (a : Area) (k i : ℕ) → i < a .stride → Byte (getD (nth [] (pieces a l) k) i 0)
+  piece-bytes a k i d = step (outside (a .count) k) refl
+    where
+      step : (t : Bool) → outside (a .count) k ≡ t → Byte (getD (nth [] (pieces a l) k) i 0)
+      step true e =
+          subst (λ (p : List ℕ). Byte (getD p i 0))
+          (sym (nth-outside [] (pieces a l) k (ap (λ (n : ℕ). outside n k) (length-pieces a l) ∙ e))) (lit< tt)
+      step false e = subst Byte (sym (piece-byte a l k i e d)) (h .bytes _)
+
+  -- what holds of any record read from bytes holds of each
+  read-holds : {A : Type 0} (P : A → Type 0) (of : List ℕ → A) (none : A) (a : Area) → of [] ≡ none
+      → ((p : List ℕ) → ((i : ℕ) → i < a .stride → Byte (getD p i 0)) → P (of p)) → (k : ℕ) → P (nth none (map of (pieces a l)) k)
+  read-holds P of none a e g k =
+      subst P (sym (nth-map of [] none (pieces a l) k e)) (g (nth [] (pieces a l) k) (piece-bytes a k))
+
+  -- what is read from bytes fits
+  pub fits-board : Fits z (boardOf z l)
+  fits-board = record {
+    first = h .bytes 0;
+    zeros = length-take-le 3 (drop 1 l) (omega (arith, length-drop 1 l, h .long));
+    tasks = length-tasks z l;
+    messages = length-messages z l;
+    places = length-places z l;
+    task = read-holds FitsTask taskOf noTask (taskArea z) refl fits-taskOf;
+    message = read-holds FitsMessage messageOf noMessage (messageArea z) refl fits-messageOf;
+    place = read-holds (FitsPlace z) (placeIn z) Free (placeArea z) refl (λ p b. fits-placeOf z (getD p 0 0) (b 0 (lit< tt)));
+  }

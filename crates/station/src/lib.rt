@@ -1,0 +1,60 @@
+// PROMISE. The station's board for its callers: making a fresh board and checking one, on lent bytes of any length and content. Read for
+// the contracts: each says the answer and every byte afterwards by one definition of document 01 (paper, Step).
+ghost use mathlib.Core.Path.{_≡_};
+ghost use Rattle.board.specs.Numbers.{small};
+ghost use Rattle.paper.specs.Step.{Ends, fresh, check};
+ghost use Rattle.station.specs.Meant.{numberMeant};
+use board::numbers::Size;
+use board::numbers::TaskMeant;
+use paper::answer::Answer;
+use paper::answer::Refusal;
+use rules::passes;
+use rules::who::running;
+
+// The board is made all zeros, whatever it held: accepted with three zeros, or 1.
+pub fn fresh(b: &mut [u8]) -> Answer
+    ensures { λ res. ⌜ Ends res (now (b .exit)) (fresh small (now (b .entry))) ⌝ }
+{
+    if b.len() != 1476 {
+        return Answer::Refused(Refusal::WrongLength);
+    }
+    let mut i: usize = 0;
+    while i < 1476 {
+        b[i] = 0;
+        i += 1;
+    }
+    Answer::Accepted {
+        value: 0,
+        running: 0,
+        delivered: 0,
+    }
+}
+
+// Can this board exist? Accepted with the running task, or 1, or 2 where a rule is broken. It writes nothing.
+pub fn check(b: &[u8]) -> Answer
+    ensures { λ res. ⌜ Ends res (now (b .entry)) (check small (now (b .entry))) ⌝ }
+{
+    if b.len() != 1476 {
+        return Answer::Refused(Refusal::WrongLength);
+    }
+    let z = Size::SMALL;
+    if !passes(z, b) {
+        return Answer::Refused(Refusal::RuleBroken);
+    }
+    let who = running(z, b);
+    Answer::Accepted {
+        value: 0,
+        running: number_of(who),
+        delivered: 0,
+    }
+}
+
+// The number of the task meant, 0 for none.
+fn number_of(who: TaskMeant) -> u16
+    ensures { λ res. ⌜ res ≡ numberMeant who ⌝ }
+{
+    match who {
+        TaskMeant::Task(k) => k.number(),
+        TaskMeant::NoTask => 0,
+    }
+}
