@@ -29,7 +29,7 @@ use Rattle.linked.specs.Linked.{Numbered}
 use Rattle.kept.specs.Stands.{Stands}
 use Rattle.kept.specs.After.{orderAfter}
 use Rattle.kept.specs.Claims.{Sizes}
-use Rattle.kept.proofs.Reading.{task-put, task-other, present-numbered, placed-numbered, held-placed, sorted-stays}
+use Rattle.kept.proofs.Reading.{task-put, task-other, present-numbered, sorted-stays}
 use Rattle.kept.proofs.Reading.{kept-stays, which-none, order-walked, go-passed, neither, task-passed}
 use Rattle.kept.proofs.Flagging.{flags-ready}
 use Rattle.kept.proofs.Installing.{stands-order}
@@ -68,8 +68,7 @@ module _ (z : Size) (b : Board) (q : List ℕ) (queues : ℕ → List ℕ) (a : 
   -- a task that holds none holds no message
   none-held : holdsOne b k ≡ false → (m : ℕ) → place b m ≢ HeldBy (taskNo k)
   none-held e m p =
-      which-none Free (isHeldBy k) (b .places) (eqb-true _ 0 (not-false _ e)) m (placed-numbered b m (held-placed b m k p))
-      (ap (isHeldBy k) p ∙ eq-eqb k k refl)
+      which-none Free (isHeldBy k) (b .places) refl (eqb-true _ 0 (not-false _ e)) m (ap (isHeldBy k) p ∙ eq-eqb k k refl)
 
   module _ (here : present b k ≡ true) (empty : task b k .mptr ≡ 0) (free : (m : ℕ) → place b m ≢ HeldBy (taskNo k)) where
     abbrev gone : Board

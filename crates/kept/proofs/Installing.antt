@@ -2,17 +2,17 @@
 -- Assumes nothing.
 use mathlib.Core.Path.{_≡_, refl, sym, ap, _∙_, subst}
 use mathlib.Core.Logic.{_≢_, inl, inr, _↔_}
-use mathlib.Core.Bool.{Bool, true, false, not, _&&_, _||_, true≢false}
+use mathlib.Core.Bool.{Bool, true, false, not, _||_, true≢false}
 use mathlib.Core.List.{List, [], _∷_}
 use Prim.Native.Nat.{ℕ, _≤_}
 use native.Mathlib.Omega.{arith}
 use native.Mathlib.Decide.{ℕ-discrete}
-use lib.Dec.{leb, lit<}
+use lib.Dec.{lit<}
 use lib.ListN.{length}
-use borrow.Author.Tests.{leb-true, not-false}
+use borrow.Author.Tests.{not-false}
 use Rattle.links.specs.Queue.{firstOf, goesBefore, insert, relink}
 use Rattle.links.specs.Chain.{In, Out, Once, All, Sorted}
-use Rattle.links.proofs.Bools.{both}
+use Rattle.links.proofs.Bools.{and-true}
 use Rattle.links.proofs.Members.{not-in-out, all-of}
 use Rattle.links.proofs.Chains.{chain-once}
 use Rattle.links.proofs.Insertion.{insert-stays, in-insert, once-insert, sorted-insert}
@@ -23,18 +23,19 @@ use Rattle.board.specs.declared.records.Task.{Task}
 use Rattle.board.specs.declared.records.Message.{Message}
 use Rattle.board.specs.declared.places.Place.the-variants.{QueuedAt}
 use Rattle.board.specs.Numbers.{outside, taskNo}
-use Rattle.board.specs.Status.{WAIT, IWAT, BIT5, INTQ, MHBS, TCBB, stored, has, number, fifo}
+use Rattle.board.specs.Status.{WAIT, IWAT, BIT5, INTQ, MHBS, TCBB, stored, has, number}
 use Rattle.board.specs.Records.{noTask, taskWithLink}
 use Rattle.board.specs.Board.{Board, task, message, place, withTask}
 use Rattle.board.proofs.Numbered.{length-put}
 use Rattle.board.proofs.Pieces.{outside-within}
 use Rattle.paper.specs.declared.call.Call.the-variants.{Install}
-use Rattle.paper.specs.Rules.{isThere, present, nextTask, nextMessage, order, taskNumber, messageNumber, taskPrio}
+use Rattle.paper.specs.Rules.{isThere, present, nextTask, nextMessage, order, taskNumber, messageNumber, goodHead}
 use Rattle.paper.specs.Changes.{linkTask, withOrder}
 use Rattle.paper.specs.Effects.{install}
 use Rattle.paper.specs.Refusals.{no7Install, no8, no9, own, Go, lowest}
 use Rattle.linked.specs.Linked.{Listing, Numbered}
 use Rattle.linked.specs.Sound.{Proper, Kept}
+use Rattle.linked.proofs.Tests.{says-goodHead}
 use Rattle.kept.specs.Stands.{Word, FitsTask, Fits, Stands, Fitting}
 use Rattle.kept.specs.After.{orderAfter}
 use Rattle.kept.specs.Claims.{Sizes}
@@ -157,13 +158,6 @@ module _ (z : Size) (b : Board) (order : List ℕ) (queues : ℕ → List ℕ) (
   }
 
 -- ---- install
--- a priority that a task may have
-prio-says : (p : ℕ) → taskPrio p ≡ true → (fifo p ≡ true) × (0x03 ≤ p) × (p ≤ 0xFD)
-prio-says p e =
-    let r = both (fifo p && leb 0x03 p) (leb p 0xFD) e in
-    let l = both (fifo p) (leb 0x03 p) (r .0) in
-    (l .0, leb-true 0x03 p (l .1), leb-true p 0xFD (r .1))
-
 -- a status that a task may be installed with: TCBB, and WAIT, IWAT, BIT5 and MHBS clear
 status-says : (stat : ℕ) → no9 stat .applies ≡ false → let s = stored stat in
     (has s TCBB ≡ true) × (has s WAIT ≡ false) × (has s IWAT ≡ false) × (has s BIT5 ≡ false) × (has s MHBS ≡ false)
@@ -243,9 +237,9 @@ module _ (z : Size) (b : Board) (q : List ℕ) (queues : ℕ → List ℕ) (a : 
   install-stands c f g =
       let prio = go-passed (no7Install p) (no8 z b k ∷ no9 stat ∷ []) g in
       let room = go-passed (no8 z b k) (no9 stat ∷ []) (prio .1) in
-      let r = prio-says p (not-false (taskPrio p) (prio .0)) in
       let n = neither (outside (z .tasks) k) (present b k) (room .0) in
       let t = status-says stat (go-passed (no9 stat) [] (room .1) .0) in
+      let good : goodHead (stored stat) p ≡ true = and-true _ _ (and-true _ _ (t .0) (ap not (t .3))) (not-false _ (prio .0)) in
       stands-install (outside-within (z .tasks) k (n .0)) (n .1)
       (record { stat = f .1; prio = f .2; link = lit< tt; mptr = lit< tt; sptr = f .3; name = f .4 })
-      (record { there = t .0; bit5 = t .3; odd = r .0; low = r .1; high = r .2 }) (t .1) (t .2) (t .4)
+      (says-goodHead installed .0 good) (t .1) (t .2) (t .4)

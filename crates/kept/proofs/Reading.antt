@@ -2,20 +2,19 @@
 -- what a row that refuses nothing says.
 -- Assumes nothing.
 use mathlib.Core.Path.{_≡_, refl, sym, ap, _∙_, subst}
-use mathlib.Core.Logic.{_≢_, _⊎_, inl, inr, _↔_}
+use mathlib.Core.Logic.{_≢_, _⊎_, inl, inr, _↔_, Iff·rfl}
 use mathlib.Core.Bool.{Bool, true, false, not, _&&_, _||_, cond, true≢false}
 use mathlib.Core.List.{List, [], _∷_}
-use Prim.Native.Nat.{ℕ, zero, suc, _-_, _≤_}
+use Prim.Native.Nat.{ℕ, zero, suc, _+_, _-_, _≤_, _<_}
 use native.Mathlib.Omega.{arith}
-use lib.Dec.{ltb}
 use lib.ListN.{length, getD, set}
-use borrow.Author.Tests.{ltb-true, ltb-false, eqb-true, eqb-false, not-true, not-false}
+use borrow.Author.Tests.{eqb-true, eqb-false, not-true, not-false}
 use Rattle.links.specs.Queue.{firstOf, firstWith, which, relink}
 use Rattle.links.specs.Chain.{In, All, Sorted, Chain}
 use Rattle.links.proofs.Bools.{both}
-use Rattle.links.proofs.Members.{all-of, all-at, pigeon}
-use Rattle.links.proofs.Chains.{chain-frame, chain-once, chain-walk}
-use Rattle.links.proofs.Exactly.{in-which, which-in}
+use Rattle.links.proofs.Members.{all-of, all-at}
+use Rattle.links.proofs.Chains.{chain-frame}
+use Rattle.links.proofs.Exactly.{in-which}
 use Rattle.board.specs.declared.numbers.Size.{Size}
 use Rattle.board.specs.declared.status.Status.{Status}
 use Rattle.board.specs.declared.records.Task.{Task}
@@ -25,14 +24,16 @@ use Rattle.board.specs.declared.places.Place.the-variants.{Free, HeldBy, Queued
 use Rattle.board.specs.Numbers.{outside, taskNo}
 use Rattle.board.specs.Status.{WAIT, IWAT, has, isPresent}
 use Rattle.board.specs.Records.{noTask, noMessage}
-use Rattle.board.specs.Places.{placeOf, placeByte, isFree, isHeldBy}
+use Rattle.board.specs.Places.{placeOf, placeByte, isFree, isHeldBy, isQueuedAt}
 use Rattle.board.specs.Board.{Board, nth, put, task, message, place, withFirst, withTask, withMessage, withPlace}
-use Rattle.board.proofs.Numbered.{nth-put, nth-put-other, nth-beyond, nth-alike, length-put}
+use Rattle.board.proofs.Numbered.{nth-put, nth-put-other, nth-alike, length-put}
 use Rattle.board.proofs.Pieces.{outside-within}
-use Rattle.paper.specs.Rules.{isThere, present, nextTask, nextMessage, order, queue, ready, running}
+use Rattle.paper.specs.Rules.{isThere, present, order, queue, ready, running}
 use Rattle.paper.specs.Refusals.{Test, no3, no4, no5, no6, Verdict, Go, Stop, lowest}
 use Rattle.linked.specs.Linked.{Listing, Numbered}
 use Rattle.linked.specs.Sound.{Proper, Kept}
+use Rattle.linked.proofs.Tests.{says-isQueuedAt}
+use Rattle.linked.proofs.Listings.{nth-numbered, which-nth, listing-walk}
 use Rattle.kept.specs.Stands.{Byte, FitsTask, FitsMessage, Fits, Stands}
 
 -- ---- a choice
@@ -57,15 +58,6 @@ nth-cases P none l zero j x h g = g
 nth-cases P none l (suc k) zero x h g = g
 nth-cases P none l (suc k) (suc j) x h g = getD-cases P none l k j x (λ e. h (ap suc e)) g
 
--- a number whose record isn't none is one of the list's
-pub nth-numbered : {A : Type 0} (none : A) (l : List A) (k : ℕ) → nth none l k ≢ none → Numbered (length l) k
-nth-numbered none l zero h = absurd (h refl)
-nth-numbered none l (suc i) h = step (ltb (length l) (suc i)) refl
-  where
-    step : (t : Bool) → ltb (length l) (suc i) ≡ t → Numbered (length l) (suc i)
-    step true e = absurd (h (nth-beyond none l (suc i) (ltb-true (length l) (suc i) e)))
-    step false e = (omega arith, ltb-false (length l) (suc i) e)
-
 -- ---- one task written
 -- it reads back
 pub task-put : (b : Board) (k : ℕ) (t : Task) → Numbered (length (b .tasks)) k → task (withTask b k t) k ≡ t
@@ -82,7 +74,7 @@ task-alike f b k j t e = nth-alike f noTask (b .tasks) k j t e
 
 -- a present task is numbered
 pub present-numbered : (b : Board) (k : ℕ) → present b k ≡ true → Numbered (length (b .tasks)) k
-present-numbered b k p = nth-numbered noTask (b .tasks) k (λ e. true≢false (sym p ∙ ap isThere e))
+present-numbered b k p = nth-numbered noTask isThere (b .tasks) refl k p
 
 -- ---- one message written, one place written
 -- a message reads back
@@ -101,9 +93,15 @@ place-put b m p h = nth-put Free (b .places) m p (h .0) (h .1)
 pub place-other : (b : Board) (m j : ℕ) (p : Place) → j ≢ m → place (withPlace b m p) j ≡ place b j
 place-other b m j p h = nth-put-other Free (b .places) m j p h
 
+not-free : (p : Place) → p ≢ Free → not (isFree p) ≡ true
+not-free Free h = absurd (h refl)
+not-free (HeldBy k) h = refl
+not-free (QueuedAt k) h = refl
+not-free (Nowhere p) h = refl
+
 -- a message that isn't free is numbered
 pub placed-numbered : (b : Board) (m : ℕ) → place b m ≢ Free → Numbered (length (b .places)) m
-placed-numbered b m h = nth-numbered Free (b .places) m h
+placed-numbered b m h = nth-numbered Free (λ p. not (isFree p)) (b .places) refl m (not-free (place b m) h)
 
 -- held is not free
 pub held-placed : (b : Board) (m k : ℕ) → place b m ≡ HeldBy (taskNo k) → place b m ≢ Free
@@ -256,50 +254,38 @@ nth-behind none l (suc i) h = let e : suc i - 1 ≡ i = omega arith in ap (λ (j
 -- the first of a list, by its number
 pub which-first : {A : Type 0} (none : A) (f : A → Bool) (l : List A) → firstOf (which f 1 l) ≢ 0
     → Numbered (length l) (firstOf (which f 1 l)) × (f (nth none l (firstOf (which f 1 l))) ≡ true)
-which-first none f l h = step (which f 1 l) refl h
+which-first none f l h = step (which f 1 l) (λ x. in-which none f 1 x l) h
   where
-    step : (q : List ℕ) → which f 1 l ≡ q → firstOf q ≢ 0 → Numbered (length l) (firstOf q) × (f (nth none l (firstOf q)) ≡ true)
-    step [] e h = absurd (h refl)
-    step (x ∷ q) e h =
-        let r = in-which none f 1 x l (rw e (inl refl)) in
+    step : (q : List ℕ) → ((x : ℕ) → In x q → (1 ≤ x) × (x < 1 + length l) × (f (getD l (x - 1) none) ≡ true)) → firstOf q ≢ 0
+        → Numbered (length l) (firstOf q) × (f (nth none l (firstOf q)) ≡ true)
+    step [] g h = absurd (h refl)
+    step (x ∷ q) g h =
+        let r = g x (inl refl) in
         ((r .0, omega (arith, r .1)), ap f (sym (nth-behind none l x (r .0))) ∙ r .2)
 
--- where there is none, none passes
-pub which-none : {A : Type 0} (none : A) (f : A → Bool) (l : List A) → firstOf (which f 1 l) ≡ 0
-    → (k : ℕ) → Numbered (length l) k → f (nth none l k) ≢ true
-which-none none f l e k h p =
-    step (which f 1 l) (λ x i. in-which none f 1 x l i .0) (which-in none f 1 k l (h .0) (omega (arith, h .1))
-    (ap f (nth-behind none l k (h .0)) ∙ p)) e
+-- where there is no first, none passes
+pub which-none : {A : Type 0} (none : A) (f : A → Bool) (l : List A) → f none ≡ false → firstOf (which f 1 l) ≡ 0
+    → (k : ℕ) → f (nth none l k) ≢ true
+which-none none f l d e k p = step (which f 1 l) (which-nth none f l d 0 .0) (which-nth none f l d k .1 p) e
   where
-    step : (q : List ℕ) → ((x : ℕ) → In x q → 1 ≤ x) → In k q → firstOf q ≡ 0 → ⊥
+    step : (q : List ℕ) → (In 0 q → f none ≡ true) → In k q → firstOf q ≡ 0 → ⊥
     step [] a i e = i
-    step (x ∷ q) a i e = omega (arith, a x (inl refl))
+    step (x ∷ q) a i e = true≢false (sym (a (inl (sym e))) ∙ d)
 
 -- ---- what the walks visit, who runs
 module _ (z : Size) (b : Board) (q : List ℕ) (queues : ℕ → List ℕ) (s : Stands z b q queues) where
-  -- the members of the task queue are tasks
-  pub order-numbered : (k : ℕ) → In k q → Numbered (z .tasks) k
-  order-numbered k i = rw (s .fits .tasks) at (present-numbered b k (s .linked .tasks .exact k .0 i))
-
-  -- the members of a queue are messages
-  pub queue-numbered : (k : ℕ) → Numbered (z .tasks) k → (m : ℕ) → In m (queues k) → Numbered (z .messages) m
-  queue-numbered k h m i =
-      rw (s .fits .places) at (placed-numbered b m (queued-placed b m k (s .linked .messages k h .exact m .0 i)))
-
   -- the walk from byte 0 visits the task queue
   pub order-walked : z .tasks ≤ z .messages → order z b ≡ q
   order-walked l =
-      let c = s .linked .tasks .chain in
-      let n = pigeon (z .tasks) q (chain-once (nextTask b) (b .first) q c) (all-of _ q order-numbered) in
-      chain-walk (nextTask b) (z .messages) (b .first) q c (omega arith) .0
+      let n : length (b .tasks) ≤ z .messages = omega (arith, s .fits .tasks) in
+      listing-walk noTask isThere (b .tasks) refl (λ k. Iff·rfl) n q (s .linked .tasks)
 
   -- the walk from MPTR visits the queue
   pub queue-walked : (k : ℕ) → Numbered (z .tasks) k → queue z b k ≡ queues k
   queue-walked k h =
-      let c = s .linked .messages k h .chain in
-      let n = pigeon (z .messages) (queues k) (chain-once (nextMessage b) (task b k .mptr) (queues k) c)
-      (all-of _ (queues k) (queue-numbered k h)) in
-      chain-walk (nextMessage b) (z .messages) (task b k .mptr) (queues k) c n .0
+      let n : length (b .places) ≤ z .messages = omega (arith, s .fits .places) in
+      listing-walk Free (isQueuedAt k) (b .places) refl (λ m. says-isQueuedAt k (place b m)) n (queues k)
+      (s .linked .messages k h)
 
 -- a ready task is present and waits for nothing
 pub ready-says : (b : Board) (k : ℕ) → ready b k ≡ true

@@ -1,9 +1,9 @@
 -- The claims of specs/Claims, proved. Assumes nothing.
-use mathlib.Core.Path.{_≡_, refl, sym, ap, _∙_}
+use mathlib.Core.Path.{_≡_, refl, sym, ap, _∙_, subst}
 use mathlib.Core.Logic.{_⊎_, inl, inr}
 use mathlib.Core.Bool.{Bool, true, false, cond, true≢false}
 use mathlib.Core.List.{List, [], _∷_}
-use Prim.Native.Nat.{ℕ, _-_, _≤_}
+use Prim.Native.Nat.{ℕ, _-_, _≤_, _<_}
 use native.Mathlib.Omega.{arith}
 use lib.ListN.{getD}
 use lib.Dec.{eqb, ltb}
@@ -58,9 +58,9 @@ refusal-changes-nothing z l = let b = boardOf z l in let c = running z b in (
 )
 
 -- ---- the lowest is given
--- no number of the tests is below n, and they ascend
+-- the numbers of the tests ascend from above n, and stay below 15
 abbrev Ascend : ℕ → List Test → Type 0
-Ascend n [] = Unit {0}
+Ascend n [] = ltb n 15 ≡ true
 Ascend n (t ∷ tests) = (ltb n (numberOf (t .refusal)) ≡ true) × Ascend (numberOf (t .refusal)) tests
 
 stands-above : (n : ℕ) (tests : List Test) → Ascend n tests → (t : Test) → Stands t tests → n ≤ numberOf (t .refusal)
@@ -95,25 +95,43 @@ given-lowest n (s ∷ tests) h = go (s .applies) refl (given-lowest _ tests (h .
 
 -- every row of the table of calls ascends
 row-ascends : (z : Size) (l : List ℕ) (b : Board) (c : ℕ) (call : Call) → Ascend 0 (row z l b c call)
-row-ascends z l b c (Install k s p sptr name) = (refl, (refl, (refl, (refl, (refl, tt)))))
-row-ascends z l b c (PostInterrupt k) = (refl, (refl, (refl, tt)))
-row-ascends z l b c (Find name) = (refl, (refl, tt))
-row-ascends z l b c (CancelTask k) = (refl, (refl, (refl, (refl, (refl, tt)))))
-row-ascends z l b c Claim = (refl, (refl, (refl, (refl, tt))))
-row-ascends z l b c (Prepare m s p sptr) = (refl, (refl, (refl, (refl, (refl, (refl, tt))))))
-row-ascends z l b c (Release m) = (refl, (refl, (refl, (refl, (refl, tt)))))
-row-ascends z l b c (Send m r) = (refl, (refl, (refl, (refl, (refl, (refl, tt))))))
-row-ascends z l b c (SendAndWait m r) = (refl, (refl, (refl, (refl, (refl, (refl, tt))))))
-row-ascends z l b c (Resend m) = (refl, (refl, (refl, (refl, (refl, (refl, (refl, tt)))))))
-row-ascends z l b c (ResendAndWait m) = (refl, (refl, (refl, (refl, (refl, (refl, (refl, tt)))))))
-row-ascends z l b c (Forward m r) = (refl, (refl, (refl, (refl, (refl, (refl, (refl, tt)))))))
-row-ascends z l b c (ForwardAndWait m r) = (refl, (refl, (refl, (refl, (refl, (refl, (refl, tt)))))))
-row-ascends z l b c (Return m) = (refl, (refl, (refl, (refl, (refl, (refl, (refl, tt)))))))
-row-ascends z l b c (ReturnAndWait m) = (refl, (refl, (refl, (refl, (refl, (refl, (refl, tt)))))))
-row-ascends z l b c Receive = (refl, (refl, (refl, tt)))
-row-ascends z l b c ReceiveAndWait = (refl, (refl, (refl, tt)))
-row-ascends z l b c (CancelMessage m r) = (refl, (refl, (refl, (refl, (refl, (refl, (refl, tt)))))))
-row-ascends z l b c WaitForInterrupt = (refl, (refl, (refl, tt)))
+row-ascends z l b c (Install k s p sptr name) = (refl, (refl, (refl, (refl, (refl, refl)))))
+row-ascends z l b c (PostInterrupt k) = (refl, (refl, (refl, refl)))
+row-ascends z l b c (Find name) = (refl, (refl, refl))
+row-ascends z l b c (CancelTask k) = (refl, (refl, (refl, (refl, (refl, refl)))))
+row-ascends z l b c Claim = (refl, (refl, (refl, (refl, refl))))
+row-ascends z l b c (Prepare m s p sptr) = (refl, (refl, (refl, (refl, (refl, (refl, refl))))))
+row-ascends z l b c (Release m) = (refl, (refl, (refl, (refl, (refl, refl)))))
+row-ascends z l b c (Send m r) = (refl, (refl, (refl, (refl, (refl, (refl, refl))))))
+row-ascends z l b c (SendAndWait m r) = (refl, (refl, (refl, (refl, (refl, (refl, refl))))))
+row-ascends z l b c (Resend m) = (refl, (refl, (refl, (refl, (refl, (refl, (refl, refl)))))))
+row-ascends z l b c (ResendAndWait m) = (refl, (refl, (refl, (refl, (refl, (refl, (refl, refl)))))))
+row-ascends z l b c (Forward m r) = (refl, (refl, (refl, (refl, (refl, (refl, (refl, refl)))))))
+row-ascends z l b c (ForwardAndWait m r) = (refl, (refl, (refl, (refl, (refl, (refl, (refl, refl)))))))
+row-ascends z l b c (Return m) = (refl, (refl, (refl, (refl, (refl, (refl, (refl, refl)))))))
+row-ascends z l b c (ReturnAndWait m) = (refl, (refl, (refl, (refl, (refl, (refl, (refl, refl)))))))
+row-ascends z l b c Receive = (refl, (refl, (refl, refl)))
+row-ascends z l b c ReceiveAndWait = (refl, (refl, (refl, refl)))
+row-ascends z l b c (CancelMessage m r) = (refl, (refl, (refl, (refl, (refl, (refl, (refl, refl)))))))
+row-ascends z l b c WaitForInterrupt = (refl, (refl, (refl, refl)))
+
+-- ---- no row gives 15
+ascend-below : (n : ℕ) (tests : List Test) → Ascend n tests → n < 15
+ascend-below n [] h = ltb-true n 15 h
+ascend-below n (t ∷ tests) h = let k = ltb-true n _ (h .0) in let q = ascend-below _ tests (h .1) in omega arith
+
+stop-below : (n : ℕ) (tests : List Test) → Ascend n tests → (q : Refusal) → lowest tests ≡ Stop q → numberOf q < 15
+stop-below n [] h q = λ e. let z : _≡_ {A = ℕ} 0 1 = cc in absurd (omega arith)
+stop-below n (t ∷ tests) h q = go (t .applies) (stop-below _ tests (h .1) q)
+  where
+    go : (v : Bool) → (lowest tests ≡ Stop q → numberOf q < 15)
+        → elim v [ true ↦ Stop (t .refusal) | false ↦ lowest tests ] ≡ Stop q → numberOf q < 15
+    go true ih e = let p : t .refusal ≡ q = cc in subst (λ (r : Refusal). numberOf r < 15) p (ascend-below _ tests (h .1))
+    go false ih e = ih e
+
+pub row-below : (z : Size) (l : List ℕ) (b : Board) (c : ℕ) (call : Call) (q : Refusal) → lowest (row z l b c call) ≡ Stop q
+    → numberOf q < 15
+row-below z l b c call = stop-below 0 (row z l b c call) (row-ascends z l b c call)
 
 pub lowest-is-given : LowestIsGiven
 lowest-is-given z l b c call = given-lowest 0 (row z l b c call) (row-ascends z l b c call)

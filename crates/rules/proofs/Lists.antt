@@ -3,12 +3,12 @@
 use mathlib.Core.Path.{_≡_, refl, sym, ap, ap₂, _∙_, subst}
 use mathlib.Core.Logic.{_↔_}
 use mathlib.Core.Bool.{Bool, true, false, cond, _&&_, true≢false}
-use mathlib.Core.List.{List, [], _∷_}
+use mathlib.Core.List.{List, [], _∷_, map}
 use Prim.Native.Nat.{ℕ, zero, suc, _+_, _-_, _≤_, _<_}
 use native.Mathlib.Omega.{arith}
 use lib.ListN.{length, getD}
 use lib.Dec.{eqb}
-use borrow.Author.Tests.{eqb-true, eq-eqb}
+use borrow.Author.Tests.{eqb-true, eqb-false, eq-eqb}
 use Rattle.links.specs.Queue.{walk, ends, which, rearranged, rising, lists, each}
 use Rattle.links.specs.Chain.{In, Once, All}
 use Rattle.links.proofs.Bools.{both, and-true, each-at, each-all}
@@ -23,8 +23,9 @@ use Rattle.board.specs.declared.places.Place.{Place}
 use Rattle.board.specs.declared.places.Place.the-variants.{Free, HeldBy, QueuedAt, Nowhere}
 use Rattle.board.specs.Numbers.{outside}
 use Rattle.board.specs.Records.{noTask}
-use Rattle.board.specs.Places.{placeOf, isQueuedAt}
-use Rattle.board.specs.Board.{Board, boardOf, nth, task, place}
+use Rattle.board.specs.Places.{placeOf, placeIn, isQueuedAt}
+use Rattle.board.specs.Board.{Board, boardOf, placeArea, pieces, nth, task, place}
+use Rattle.board.proofs.Codec.{place-free, place-held, place-receiver, place-nowhere}
 use Rattle.board.proofs.Pieces.{outside-within}
 use Rattle.paper.specs.Rules.{isThere, present, nextTask, nextMessage, taskNumber, messageNumber, rule3, rule5At}
 use Rattle.linked.proofs.Listings.{which-nth}
@@ -107,6 +108,41 @@ rule3-is z b e =
     (which-nth noTask isThere (b .tasks) refl))
 
 -- ---- R5
+-- a place that is queued names a task of the board
+abbrev pub Named : Size → Place → Type 0
+Named z Free = Unit {0}
+Named z (HeldBy k) = Unit {0}
+Named z (QueuedAt k) = (1 ≤ k .0) × (k .0 ≤ z .tasks)
+Named z (Nowhere p) = Unit {0}
+
+place-named : (z : Size) (p : ℕ) → Named z (placeOf z p)
+place-named z p = go (eqb p 0) refl (outside (z .tasks) p) refl (outside (z .tasks) (p - 64)) refl
+  where
+    go : (s : Bool) → eqb p 0 ≡ s → (t : Bool) → outside (z .tasks) p ≡ t → (u : Bool) → outside (z .tasks) (p - 64) ≡ u
+        → Named z (placeOf z p)
+    go true e t f u g = subst (Named z) (sym (place-free z p (eqb-true p 0 e))) tt
+    go false e true f true g = subst (Named z) (sym (place-nowhere z p (eqb-false p 0 e) f g)) tt
+    go false e true f false g =
+        subst (Named z) (sym (place-receiver z p (p - 64) (eqb-false p 0 e) f refl g)) (outside-within (z .tasks) (p - 64) g)
+    go false e false f u g = let r = outside-within (z .tasks) p f in subst (Named z) (sym (place-held z p (r .0) (r .1))) tt
+
+mapped-at : {A B : Type 0} (P : B → Type 0) (f : A → B) → ((x : A) → P (f x)) → (l : List A) (i : ℕ) → i < length (map f l)
+    → (none : B) → P (getD (map f l) i none)
+mapped-at P f h [] i j none = absurd (omega arith)
+mapped-at P f h (x ∷ l) zero j none = h x
+mapped-at P f h (x ∷ l) (suc i) j none = mapped-at P f h l i (omega arith) none
+
+-- so it is with every place that is read from bytes
+pub places-named : (z : Size) (l : List ℕ) (i : ℕ) → i < length (boardOf z l .places) → (none : Place)
+    → Named z (getD (boardOf z l .places) i none)
+places-named z l = mapped-at (Named z) (placeIn z) (λ p. place-named z (getD p 0 0)) (pieces (placeArea z) l)
+
+named-once : (z : Size) (p : Place) → Named z p → sumTo (λ k. one (isQueuedAt k p)) (z .tasks) ≡ one (isQueued p)
+named-once z Free h = sum-zero (z .tasks)
+named-once z (HeldBy k) h = sum-zero (z .tasks)
+named-once z (QueuedAt k) h = sum-once (k .0) (z .tasks) (h .0) (h .1)
+named-once z (Nowhere p) h = sum-zero (z .tasks)
+
 module _ (z : Size) (b : Board) where
   abbrev walkOf : ℕ → List ℕ
   walkOf k = walk (nextMessage b) (z .messages) (task b k .mptr)
@@ -161,26 +197,13 @@ module _ (z : Size) (b : Board) where
       and-true (each fine n) _ (each-all fine n (λ k i j. at k i j .0))
       (eq-eqb _ _ (sums-equal (λ k. length (walkOf k)) (λ k. length (placedAt k)) n (λ k i j. eqb-true _ _ (at k i j .1))))
 
-  -- every queued place names a task of the board
-  abbrev pub Named : Place → Type 0
-  Named Free = Unit {0}
-  Named (HeldBy k) = Unit {0}
-  Named (QueuedAt k) = (1 ≤ k .0) × (k .0 ≤ z .tasks)
-  Named (Nowhere p) = Unit {0}
-
-  named-once : (p : Place) → Named p → sumTo (λ k. one (isQueuedAt k p)) (z .tasks) ≡ one (isQueued p)
-  named-once Free h = sum-zero (z .tasks)
-  named-once (HeldBy k) h = sum-zero (z .tasks)
-  named-once (QueuedAt k) h = sum-once (k .0) (z .tasks) (h .0) (h .1)
-  named-once (Nowhere p) h = sum-zero (z .tasks)
-
-  pub rule5-is : length (b .places) ≡ z .messages → ((i : ℕ) → i < length (b .places) → (none : Place) → Named (getD (b .places) i none))
+  pub rule5-is : length (b .places) ≡ z .messages → ((i : ℕ) → i < length (b .places) → (none : Place) → Named z (getD (b .places) i none))
       → saw (walked z b (z .tasks)) (counted (queued b) (z .messages)) ≡ each (rule5At z b) (z .tasks)
   rule5-is e named =
       let w = sumTo (λ k. length (walkOf k)) (z .tasks) in
       let p = sumTo (λ k. length (placedAt k)) (z .tasks) in
       ap₂ saw (walked-is (z .tasks))
       (ap (counted (queued b)) (sym e) ∙ counted-which Free isQueued 1 (b .places)
-      ∙ sym (counts-add isQueuedAt isQueued Named (z .tasks) 1 named-once (b .places) named))
+      ∙ sym (counts-add isQueuedAt isQueued (Named z) (z .tasks) 1 (named-once z) (b .places) named))
       ∙ saw-cond (each fine (z .tasks)) w p
       ∙ alike (each fine (z .tasks) && eqb w p) (each (rule5At z b) (z .tasks)) (sum-each (z .tasks)) (each-sum (z .tasks))

@@ -2,7 +2,7 @@
 -- Assumes nothing.
 use mathlib.Core.Path.{_≡_, refl, sym, ap, ap₂, _∙_}
 use mathlib.Core.Logic.{_⊎_, inl, inr, ⊎-elim}
-use mathlib.Core.Bool.{Bool, true, false, _&&_, _||_, and-true, true≢false}
+use mathlib.Core.Bool.{Bool, true, false, not, _&&_, _||_, and-true, true≢false}
 use mathlib.Core.List.{List, [], _∷_}
 use Prim.Native.Nat.{ℕ, zero, suc}
 use native.Mathlib.Omega.{arith}
@@ -11,12 +11,24 @@ use lib.ListN.{getD, take, drop}
 use borrow.Author.Tests.{eq-eqb, ne-eqb}
 use denote.Enum.Declared.{tagOf}
 use types.Run.{OneOf}
+use Rattle.board.specs.declared.numbers.Size.{Size}
 use Rattle.board.specs.declared.numbers.TaskNo.{TaskNo}
+use Rattle.board.specs.declared.numbers.TaskMeant.{TaskMeant}
+use Rattle.board.specs.declared.numbers.TaskMeant.the-variants as means
+use Rattle.board.specs.declared.numbers.TaskMeant.the-variants.{NoTask}
+use Rattle.board.specs.declared.records.Task.{Task}
 use Rattle.board.specs.declared.places.Place.{Place}
 use Rattle.board.specs.declared.places.Place.the-variants.{Free, HeldBy, QueuedAt, Nowhere}
+use Rattle.board.specs.Numbers.{outside, taskMeant}
+use Rattle.board.specs.Status.{MHBS, has}
+use Rattle.board.specs.Records.{noTask}
 use Rattle.board.specs.Places.{isQueuedAt}
+use Rattle.board.specs.Board.{boardOf, task}
 use Rattle.board.proofs.places.Place.{the-type}
-use Rattle.paper.specs.Rules.{allZero}
+use Rattle.board.proofs.Pieces.{nth-outside}
+use Rattle.board.proofs.Codec.{length-tasks}
+use Rattle.board.proofs.Meant.{taskMeant-task, taskMeant-none}
+use Rattle.paper.specs.Rules.{running, allZero, rule7}
 use Rattle.rules.specs.Walks.{isQueued}
 
 -- ---- bytes 1 to 3
@@ -63,3 +75,19 @@ module _ (p q : Place) (e : q ≡ p) where
   -- or is not
   pub queued-elsewhere : (k n : ℕ) (r : TaskNo) → q ≡ QueuedAt r → n ≡ r .0 → (n ≡ k → ⊥) → isQueuedAt k p ≡ false
   queued-elsewhere k n r h s t = ap (isQueuedAt k) (sym e ∙ h) ∙ ne-eqb (r .0) k (λ i. t (s ∙ i))
+
+-- ---- R7: w is who runs
+module _ (z : Size) (l : List ℕ) (w : TaskMeant) (e : w ≡ taskMeant z (running z (boardOf z l))) where
+  -- nobody, so nobody is due a message
+  pub nobody-due : w ≡ NoTask → true ≡ rule7 z (boardOf z l)
+  nobody-due h =
+      let r = running z (boardOf z l) in
+      ap (λ (t : Task). not (has (t .stat) MHBS))
+      (sym (nth-outside noTask (boardOf z l .tasks) r (ap (λ (n : ℕ). outside n r) (length-tasks z l) ∙ taskMeant-none z r (sym e ∙ h))))
+
+  -- the task c of the record t, which is due one if u says so
+  pub somebody-due : (c : TaskNo) (t : Task) (u : Bool) → w ≡ means.Task c → t ≡ task (boardOf z l) (c .0) → u ≡ has (t .stat) MHBS
+      → not u ≡ rule7 z (boardOf z l)
+  somebody-due c t u h f g =
+      let i = taskMeant-task z (running z (boardOf z l)) c (sym e ∙ h) .1 in
+      ap not (g ∙ ap (λ (s : Task). has (s .stat) MHBS) (f ∙ ap (λ (k : TaskNo). task (boardOf z l) (k .0)) i))

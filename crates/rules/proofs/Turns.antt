@@ -4,6 +4,8 @@ use mathlib.Core.Path.{_≡_, refl, sym, ap, ap₂, _∙_}
 use mathlib.Core.Bool.{Bool, true, false, cond, not, _&&_, true≢false}
 use mathlib.Core.List.{List, [], _∷_}
 use Prim.Native.Nat.{ℕ, zero, suc, _+_, _-_, _*_, _≤_, _<_}
+use native.Mathlib.Nat.{suc-mul, mul-le-mul-right}
+use native.Mathlib.Decide.{ℕ-discrete}
 use native.Mathlib.Omega.{arith}
 use lib.Dec.{eqb, leb}
 use lib.ListN.{getD, take, drop}
@@ -11,12 +13,16 @@ use borrow.Author.Tests.{not-true, not-false, le-leb, lt-leb}
 use Rattle.links.specs.Queue.{walk, firstWith, each}
 use Rattle.links.proofs.Bools.{and-true, each-at}
 use Rattle.links.proofs.Chains.{walk-step, walk-end}
+use Rattle.board.specs.declared.numbers.Size.{Size}
+use Rattle.board.specs.declared.records.Task.{Task}
+use Rattle.board.specs.Board.{Board, task}
+use Rattle.paper.specs.Rules.{nextMessage, messageNumber}
 use Rattle.rules.specs.declared.walks.Turn.{Turn}
 use Rattle.rules.specs.declared.walks.Turn.the-variants.{Next, Stray}
 use Rattle.rules.specs.declared.walks.Walked.{Walked}
 use Rattle.rules.specs.declared.walks.Walked.the-variants.{Seen, Broken}
-use Rattle.rules.specs.Walks.{turned, visited, counted}
-use Rattle.rules.proofs.Visits.{visited-end, visited-out, visited-on, visited-stray}
+use Rattle.rules.specs.Walks.{turned, visited, counted, queuedAt, added, walked}
+use Rattle.rules.proofs.Visits.{visited-end, visited-out, visited-on, visited-stray, visited-bound}
 use Rattle.rules.proofs.Counting.{counted-turn}
 
 -- ---- each number passes: R2, R4, R6, where t is what the code answers for the next number
@@ -91,6 +97,48 @@ module _ (next number : ℕ → ℕ) (good : ℕ → Bool) where
     -- it gives up
     pub walk-gives-up : most ≤ s → (x ≡ 0 → ⊥) → Broken ≡ w
     walk-gives-up h g = sym (visited-out next number good (most - s) x low s (omega arith) g) ∙ inv
+
+-- ---- the walks of all queues, one after the other
+-- one queue's
+abbrev pub walkAt : Size → Board → ℕ → Walked
+walkAt z b k = visited (nextMessage b) (messageNumber b) (queuedAt b k) (z .messages) (task b k .mptr) 0 0
+
+added-broken : (w : Walked) → Broken ≡ added w Broken
+added-broken (Seen s) = refl
+added-broken Broken = refl
+
+module _ (z : Size) (b : Board) where
+  -- no queue yet
+  pub walks-start : walked z b 0 ≡ Seen 0
+  unfolding walked
+  walks-start = refl
+
+  -- one queue more
+  pub walks-on : (k s n : ℕ) → walked z b k ≡ Seen s → Seen n ≡ walkAt z b (k + 1) → walked z b (k + 1) ≡ Seen (s + n)
+  unfolding walked
+  walks-on k s n e f =
+      let i : k + 1 ≡ suc k = omega arith in ap (walked z b) i ∙ ap₂ added e (ap (walkAt z b) (sym i) ∙ sym f)
+
+  -- a queue of which the walk is broken, so all together are
+  pub walks-break : (n k : ℕ) → k < n → Broken ≡ walkAt z b (k + 1) → Broken ≡ walked z b n
+  unfolding walked
+  walks-break zero k h e = absurd (omega arith)
+  walks-break (suc n) k h e = step (ℕ-discrete (k + 1) (suc n)) (λ i. walks-break n k i e)
+    where
+      step : Dec (k + 1 ≡ suc n) → (k < n → Broken ≡ walked z b n) → Broken ≡ added (walked z b n) (walkAt z b (suc n))
+      step (yes i) ih = added-broken (walked z b n) ∙ ap (added (walked z b n)) (e ∙ ap (walkAt z b) i)
+      step (no i) ih = ap (λ (w : Walked). added w (walkAt z b (suc n))) (ih (omega arith))
+
+  -- each sees at most as many as there are messages, so their sum fits a word of 32 bits
+  pub walks-bound : (k s n : ℕ) → s ≤ k * z .messages → Seen n ≡ walkAt z b (k + 1) → s + n ≤ (k + 1) * z .messages
+  walks-bound k s n h e =
+      let i : k + 1 ≡ suc k = omega arith in
+      let m = visited-bound (nextMessage b) (messageNumber b) (queuedAt b (k + 1)) (z .messages) (task b (k + 1) .mptr) n (sym e) in
+      omega (arith, m, ap (λ (j : ℕ). j * z .messages) i ∙ suc-mul k (z .messages))
+
+  pub walks-fit : (k s : ℕ) → s ≤ k * z .messages → k < 65537 → z .messages < 65536 → s < 4294967296
+  walks-fit k s h i j =
+      let d : k * z .messages ≤ 65536 * z .messages = mul-le-mul-right (z .messages) (let l : k ≤ 65536 = omega arith in l) in omega (arith, d)
 
 -- ---- a walk for the first that passes, which is r
 module _ (f : ℕ → Bool) (next : ℕ → ℕ) (n x r : ℕ) (inv : firstWith f (walk next n x) ≡ r) where

@@ -9,6 +9,7 @@ use lib.ListN.{length}
 use lib.Dec.{eqb, leb}
 use borrow.Author.Tests.{eq-eqb, ne-eqb}
 use Rattle.links.specs.Queue.{walk, ends, rising}
+use Rattle.links.proofs.Chains.{walk-length}
 use Rattle.rules.specs.declared.walks.Turn.{Turn}
 use Rattle.rules.specs.declared.walks.Turn.the-variants.{Next, Stray}
 use Rattle.rules.specs.declared.walks.Walked.{Walked}
@@ -107,3 +108,16 @@ module _ (next number : ℕ → ℕ) (good : ℕ → Bool) where
   visited-whole n x =
       visited-is n x 0 0
       ∙ ap (λ (m : ℕ). cond (orderly n x 0) (Seen m) Broken) (let e : 0 + length (walk next n x) ≡ length (walk next n x) = omega arith in e)
+
+  -- how many it saw
+  abbrev seenIn : Walked → ℕ
+  seenIn (Seen m) = m
+  seenIn Broken = 0
+
+  -- no more than it may follow links
+  pub visited-bound : (n x m : ℕ) → visited next number good n x 0 0 ≡ Seen m → m ≤ n
+  visited-bound n x m e = go (orderly n x 0) (ap seenIn (sym e ∙ visited-whole n x))
+    where
+      go : (t : Bool) → m ≡ seenIn (cond t (Seen (length (walk next n x))) Broken) → m ≤ n
+      go true h = omega (arith, walk-length next n x)
+      go false h = omega arith

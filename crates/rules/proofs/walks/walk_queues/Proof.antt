@@ -1,3 +1,12 @@
+use borrow.Author.Needs.{needs}
+use mathlib.Core.Path.{_≡_, refl, sym, ap, _∙_}
+use Prim.Native.Nat.{_+_, _-_, _*_, _≤_}
+use native.Mathlib.Omega.{arith}
+use denote.Ref.{now}
+use Rattle.board.specs.Board.{boardOf}
+use Rattle.rules.specs.declared.walks.Walked.the-variants.{Seen}
+use Rattle.rules.specs.Walks.{walked}
+use Rattle.rules.proofs.Turns.{walks-start, walks-on, walks-break, walks-bound, walks-fit}
 use Rattle.rules.proofs.walks.walk_queues.Statement.{statement}
 use Rattle.rules.proofs.walks.walk_queues.Tie as tie
 use Rattle.rules.proofs.walks.walk_queues.Reads as reads
@@ -5,50 +14,50 @@ use Rattle.rules.proofs.walks.walk_queues.Lts as lts
 use Rattle.rules.proofs.walks.walk_queue.Reads as walk-queue-reads
 
 abbrev Inv-loop : tie.InvT-loop
-Inv-loop z b most k₀ sum₀ k sum = ?
+Inv-loop z b most k₀ sum₀ k sum = (k ≤ most) × (most ≡ z .tasks) × (walked z (boardOf z b) k ≡ Seen sum) × (sum ≤ k * z .messages)
 
 abbrev μ-loop : tie.MeasureT-loop
-μ-loop z b most k₀ sum₀ k sum = ?
+μ-loop z b most k₀ sum₀ k sum = most - k
 
 -- src/walks.rt:166:5
 loop-holds : tie.Need-loop-holds Inv-loop μ-loop
-loop-holds c = ?
+loop-holds c = (omega arith, refl, walks-start (c .before .args .z) (boardOf (c .before .args .z) (now (c .before .args .b))), omega arith)
 
 -- src/walks.rt:167:9
 add-k : tie.Need-add-k Inv-loop μ-loop
-add-k c = ?
+add-k c = omega arith
 
 -- src/walks.rt:168:13
 walk-queue-requires : tie.Need-walk-queue-requires Inv-loop μ-loop
-walk-queue-requires c κs = ?
+walk-queue-requires c κs = search needs
 
 -- src/walks.rt:169:26
 enum-known-one : tie.Need-enum-known-one Inv-loop μ-loop
-enum-known-one c = ?
+enum-known-one c = search needs
 
 -- src/walks.rt:170:13
 enum-told : tie.Need-enum-told Inv-loop μ-loop
-enum-told c = ?
+enum-told c = search needs
 
 -- src/walks.rt:170:13
 returns : tie.Need-returns Inv-loop μ-loop
-returns c = ?
+returns c = walks-break (c .before .before .before .before .before .before .args .z) (boardOf (c .before .before .before .before .before .before .args .z) (now (c .before .before .before .before .before .before .args .b))) _ (c .before .before .before .before .loop .k) (omega arith) (sym (c .enum-told .given .1) ∙ c .before .before .walk-queue .ensures)
 
 -- src/walks.rt:172:9
 add-sum : tie.Need-add-sum Inv-loop μ-loop
-add-sum c = ?
+add-sum c = omega (arith, walks-fit (c .before .before .before .before .before .before .before .args .z) (boardOf (c .before .before .before .before .before .before .before .args .z) (now (c .before .before .before .before .before .before .before .args .b))) (c .before .before .before .before .before .loop .k + 1) _ (walks-bound (c .before .before .before .before .before .before .before .args .z) (boardOf (c .before .before .before .before .before .before .before .args .z) (now (c .before .before .before .before .before .before .before .args .b))) (c .before .before .before .before .before .loop .k) (c .before .before .before .before .before .loop .sum) (c .before .one .given .0 .0) (c .before .before .before .before .before .loop .inv .3) (sym (c .before .one .given .1) ∙ c .before .before .before .walk-queue .ensures)) (omega arith) (omega arith))
 
 -- src/walks.rt:166:5
 loop-less : tie.Need-loop-less Inv-loop μ-loop
-loop-less c = ?
+loop-less c = omega arith
 
 -- src/walks.rt:166:5
 loop-again : tie.Need-loop-again Inv-loop μ-loop
-loop-again c = ?
+loop-again c = (omega arith, c .before .before .before .before .before .loop .inv .1, walks-on (c .before .before .before .before .before .before .before .args .z) (boardOf (c .before .before .before .before .before .before .before .args .z) (now (c .before .before .before .before .before .before .before .args .b))) (c .before .before .before .before .before .loop .k) (c .before .before .before .before .before .loop .sum) _ (c .before .before .before .before .before .loop .inv .2) (sym (c .before .one .given .1) ∙ c .before .before .before .walk-queue .ensures), walks-bound (c .before .before .before .before .before .before .before .args .z) (boardOf (c .before .before .before .before .before .before .before .args .z) (now (c .before .before .before .before .before .before .before .args .b))) (c .before .before .before .before .before .loop .k) (c .before .before .before .before .before .loop .sum) _ (c .before .before .before .before .before .loop .inv .3) (sym (c .before .one .given .1) ∙ c .before .before .before .walk-queue .ensures))
 
 -- src/walks.rt:160:1
 returns-2 : tie.Need-returns-2 Inv-loop μ-loop
-returns-2 c = ?
+returns-2 c = sym (c .before .loop .inv .2) ∙ ap (walked (c .before .before .before .args .z) (boardOf (c .before .before .before .args .z) (now (c .before .before .before .args .b)))) (omega arith)
 
 pub walk-queues-spec : {M : Type 1} → statement M
 walk-queues-spec =

@@ -1,3 +1,6 @@
+use mathlib.Core.Path.{_≡_, sym, ap, _∙_}
+use denote.Ref.{now}
+use Rattle.rules.proofs.Tests.{nobody-due, somebody-due}
 use borrow.Author.Needs.{needs}
 use Rattle.rules.proofs.who.rule7.Statement.{statement}
 use Rattle.rules.proofs.who.rule7.Tie as tie
@@ -21,7 +24,7 @@ enum-told c = search needs
 
 -- src/who.rt:39:9
 returns : tie.Need-returns
-returns c = ?
+returns c = nobody-due (c .before .before .before .before .args .z) (now (c .before .before .before .before .args .b)) _ (c .before .before .running .ensures) (c .enum-told .given .1)
 
 -- src/who.rt:41:9
 task-at-requires : tie.Need-task-at-requires
@@ -33,7 +36,7 @@ has-requires c κs = search needs
 
 -- src/who.rt:34:1
 returns-2 : tie.Need-returns-2
-returns-2 c = ?
+returns-2 c = somebody-due (c .before .before .before .before .before .before .before .before .args .z) (now (c .before .before .before .before .before .before .before .before .args .b)) _ (c .before .before .before .before .before .before .running .ensures) (c .before .before .before .before .who .given .0 .0) (c .before .before .task-at .result) _ (c .before .before .before .before .who .given .1) (c .before .before .task-at .ensures) (c .has .ensures)
 
 pub rule7-spec : {M : Type 1} → statement M
 rule7-spec =

@@ -1,0 +1,13 @@
+pub mod Reading
+pub mod Flagging
+pub mod Holding
+pub mod Installing
+pub mod Cancelling
+pub mod Fitting
+pub mod Relinked
+pub mod Waiting
+pub mod Moving
+pub mod Placing
+pub mod Taking
+pub mod Dispatching
+pub mod Theorems
