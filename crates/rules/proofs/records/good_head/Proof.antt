@@ -35,3 +35,5 @@ returns-3 c = rw (sym (c .before .before .before .before .has .ensures) ∙ not-
 pub good-head-spec : {M : Type 1} → statement M
 good-head-spec =
     tie.close (tie.spec has-requires returns has-requires-2 returns-2 task-prio-requires returns-3)
+
+-- x

@@ -66,3 +66,5 @@ good-message-spec =
     returns-2
     returns-3
     returns-4)
+
+-- x

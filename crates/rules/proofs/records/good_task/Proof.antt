@@ -25,3 +25,5 @@ returns-2 c = rw (sym (c .before .before .zero-task .ensures) ∙ c .before .if1
 
 pub good-task-spec : {M : Type 1} → statement M
 good-task-spec = tie.close (tie.spec zero-task-requires returns good-head-requires returns-2)
+
+-- x

@@ -29,3 +29,5 @@ returns c = c .present .ensures ∙ ap isThere (c .before .task-meant .ensures �
 
 pub present-at-spec : {M : Type 1} → statement M
 present-at-spec = tie.close (tie.spec number-requires task-meant-requires present-requires returns)
+
+-- x

@@ -67,3 +67,5 @@ rule2-spec =
     loop-less
     loop-again
     returns-2)
+
+-- x

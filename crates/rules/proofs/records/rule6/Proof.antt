@@ -69,3 +69,5 @@ rule6-spec =
     loop-less
     loop-again
     returns-2)
+
+-- x

@@ -1,0 +1,82 @@
+-- Demand 3 as statements; their proofs are in proofs/Theorems. A reader must believe this file.
+--   OneRanking           of entries made at different times exactly one list is the ranking
+--   Agrees z l p         the bytes l and the plain machine p agree: the links list the rankings, every other field is the machine's, and
+--                        the running task is the machine's
+--   past z p calls       the machine after these calls, and its answers
+--   LinksAgree           whatever calls are made from the fresh board, all answers agree, one by one, and afterwards the bytes agree
+-- Assumes nothing.
+use mathlib.Core.Path.{_≡_}
+use mathlib.Core.List.{List, [], _∷_}
+use Prim.Native.Nat.{ℕ}
+use lib.Dec.{eqb}
+use Rattle.board.specs.declared.numbers.Size.{Size}
+use Rattle.board.specs.declared.numbers.TaskNo.{TaskNo}
+use Rattle.board.specs.declared.records.Task.{Task}
+use Rattle.board.specs.declared.records.Message.{Message}
+use Rattle.board.specs.declared.places.Place.{Place}
+use Rattle.board.specs.declared.places.Place.the-variants as places
+use Rattle.board.specs.Board.{Board, boardOf, task, message, place}
+use Rattle.paper.specs.declared.call.Call.{Call}
+use Rattle.paper.specs.declared.answer.Answer.{Answer}
+use Rattle.paper.specs.Rules.{order, queue}
+use Rattle.paper.specs.Rules as rules
+use Rattle.paper.specs.Step.{blank}
+use Rattle.paper.specs.History as bytes
+use Rattle.linked.specs.Linked.{Numbered}
+use Rattle.kept.specs.Stands.{Fitting}
+use Rattle.kept.specs.Claims.{Sizes}
+use Rattle.history.specs.Ranking.{Entry, keep, Ranking, Once, Names}
+use Rattle.history.specs.Machine.{Sheet, Block, Whose, Free, Held, Queued, Plain, start, Result, step, running}
+
+-- ---- the ranking is one
+pub record Ranked (l : List Entry) : Type 0 where
+  pub list : List Entry
+  pub ranking : Ranking l list
+  pub only : (q : List Entry) → Ranking l q → q ≡ list
+
+abbrev pub OneRanking : Type 0
+OneRanking = (l : List Entry) → Once l → Ranked l
+
+-- ---- a board and the machine
+abbrev pub sheetOf : Task → Sheet
+sheetOf t = record { stat = t .stat; prio = t .prio; sptr = t .sptr; name = t .name }
+
+abbrev pub blockOf : Message → Block
+blockOf r = record { stat = r .stat; prio = r .prio; rptr = r .rptr; sptr = r .sptr }
+
+abbrev pub Says : Place → Whose → Type 0
+Says places.Free w = w ≡ Free
+Says (places.HeldBy k) w = w ≡ Held (k .0)
+Says (places.QueuedAt k) w = w ≡ Queued (k .0)
+Says (places.Nowhere p) w = ⊥
+
+pub record Agrees (z : Size) (l : List ℕ) (p : Plain) : Type 0 where
+  pub tasks : (k : ℕ) → sheetOf (task (boardOf z l) k) ≡ p .sheets k
+  pub messages : (m : ℕ) → blockOf (message (boardOf z l) m) ≡ p .blocks m
+  pub places : (m : ℕ) → Says (place (boardOf z l) m) (p .whose m)
+  pub once : Once (p .installs) × Once (p .placements)
+  pub order : Names (p .installs) (order z (boardOf z l))
+  pub queues : (k : ℕ) → Numbered (z .tasks) k → Names (keep (λ e. eqb (e .at) k) (p .placements)) (queue z (boardOf z l) k)
+  pub runs : rules.running z (boardOf z l) ≡ running p
+
+-- ---- histories
+pub record Past : Type 0 where
+  pub answers : List Answer
+  pub plain : Plain
+
+abbrev pub past : Size → Plain → List Call → Past
+past z p [] = record { answers = []; plain = p }
+past z p (call ∷ calls) =
+    let o = step z p call in
+    let rest = past z (o .plain) calls in
+    record { answers = o .answer ∷ rest .answers; plain = rest .plain }
+
+abbrev pub AllFit : List Call → Type 0
+AllFit [] = Unit {0}
+AllFit (call ∷ calls) = Fitting call × AllFit calls
+
+abbrev pub LinksAgree : Type 0
+LinksAgree =
+    (z : Size) → Sizes z → (calls : List Call) → AllFit calls
+    → (bytes.run z (blank z) calls .answers ≡ past z start calls .answers)
+    × Agrees z (bytes.run z (blank z) calls .after) (past z start calls .plain)
