@@ -21,8 +21,10 @@ pub fn held_by(p: Place, c: TaskNo) -> bool
     ensures { λ res. ⌜ res ≡ isHeldBy (c .0) p ⌝ }
 {
     match p {
+        Place::Free => false,
         Place::HeldBy(k) => k.number() == c.number(),
-        _ => false,
+        Place::QueuedAt(_) => false,
+        Place::Nowhere(_) => false,
     }
 }
 
@@ -31,8 +33,10 @@ pub fn queued_at(p: Place, r: TaskNo) -> bool
     ensures { λ res. ⌜ res ≡ isQueuedAt (r .0) p ⌝ }
 {
     match p {
+        Place::Free => false,
+        Place::HeldBy(_) => false,
         Place::QueuedAt(k) => k.number() == r.number(),
-        _ => false,
+        Place::Nowhere(_) => false,
     }
 }
 

@@ -149,7 +149,7 @@ module _ (z : Size) (b : Board) (order : List ℕ) (queues : ℕ → List ℕ) (
       (λ e d. omega (arith, h .high)) (λ e. eqb-false (number (t .prio)) 127 e))
 
   -- it stands in no queue, so all the queues stay
-  addressed-stands : Stands z (addressed b c m r) order queues
+  pub addressed-stands : Stands z (addressed b c m r) order queues
   addressed-stands =
       let f = stands .fits .message m in
       let k = held-kept z b order queues stands m c held in
@@ -180,7 +180,7 @@ module _ (z : Size) (b : Board) (order : List ℕ) (queues : ℕ → List ℕ) (
 -- ---- the calls, each with its wait form
 module _ (z : Size) (b : Board) (order : List ℕ) (queues : ℕ → List ℕ) (sizes : Sizes z) (stands : Stands z b order queues) where
   -- refusals 3 to 6 of their rows
-  sender-passed : (m r : ℕ) (tests : List Test) → let c = running z b in
+  pub sender-passed : (m r : ℕ) (tests : List Test) → let c = running z b in
       lowest (no3 c ∷ no4 z m ∷ no5 b c m ∷ no6 z b r ∷ tests) ≡ Go
       → (c ≢ 0) × (place b m ≡ HeldBy (taskNo c)) × (present b r ≡ true) × (lowest tests ≡ Go)
   sender-passed m r tests g =

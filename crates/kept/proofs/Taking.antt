@@ -142,7 +142,7 @@ module _ (z : Size) (b : Board) (order : List ℕ) (queues : ℕ → List ℕ) (
     none : queue z b c ≡ []
     none = walk-end (nextMessage b) (z .messages) (task b c .mptr) n
 
-    take-none : takeFirst z b c ≡ b
+    pub take-none : takeFirst z b c ≡ b
     take-none =
         ap (λ (q : List ℕ). hold (withQueue b c (restOf q)) c (firstOf q)) none
         ∙ ap (λ (t : Task). withTask b c t) (ap (taskWithMptr (task b c)) (sym n))
@@ -180,7 +180,7 @@ module _ (z : Size) (b : Board) (order : List ℕ) (queues : ℕ → List ℕ) (
 
 -- ---- the calls
 -- 12: the message is queued at the task meant
-queued-passed : (r : ℕ) (p : Place) → not (isQueuedAt r p) ≡ false → p ≡ QueuedAt (taskNo r)
+pub queued-passed : (r : ℕ) (p : Place) → not (isQueuedAt r p) ≡ false → p ≡ QueuedAt (taskNo r)
 queued-passed r Free e = absurd (true≢false e)
 queued-passed r (HeldBy k) e = absurd (true≢false e)
 queued-passed r (QueuedAt k) e = ap (λ (n : ℕ). QueuedAt (taskNo n)) (eqb-true (k .0) r (not-false (eqb (k .0) r) e))

@@ -1,11 +1,9 @@
 // The walk that looks for a place in a queue: where a priority goes, or where a record stands. It follows at most the paper's number of
 // links, whatever the bytes are.
 ghost use mathlib.Core.Path.{_≡_};
-ghost use lib.Dec.{eqb};
 ghost use Rattle.links.specs.Queue.{goesBefore};
-ghost use Rattle.links.specs.Seek.{Spot, seek};
-ghost use Rattle.board.specs.Board.{boardOf};
-ghost use Rattle.paper.specs.Rules.{nextTask, nextMessage, taskNumber, messageNumber};
+ghost use Rattle.links.specs.Seek.{Spot};
+ghost use Rattle.queue.specs.Moves.{spotFor, spotOf, spotForTask, spotOfTask};
 use board::numbers::Size;
 use board::priority::number;
 use board::words::message_meant;
@@ -29,7 +27,7 @@ pub fn goes_before(fifo: bool, p: u8, x: u8) -> bool
 
 // Where a message of priority number p goes in the queue that starts at x.
 pub fn place_for_message(z: Size, b: &[u8], x: u16, fifo: bool, p: u8) -> Found
-    ensures { λ res. ⌜ record { prev = res .prev; cur = res .cur } ≡ seek (λ y. goesBefore fifo p (messageNumber (boardOf z (now (b .entry))) y)) (nextMessage (boardOf z (now (b .entry)))) (z .messages) 0 x ⌝ }
+    ensures { λ res. ⌜ record { prev = res .prev; cur = res .cur } ≡ spotFor z (now (b .entry)) x fifo p ⌝ }
 {
     let mut left = z.messages;
     let mut prev: u16 = 0;
@@ -60,7 +58,7 @@ pub fn place_for_message(z: Size, b: &[u8], x: u16, fifo: bool, p: u8) -> Found
 
 // Where the message m stands in the queue that starts at x.
 pub fn place_of_message(z: Size, b: &[u8], x: u16, m: u16) -> Found
-    ensures { λ res. ⌜ record { prev = res .prev; cur = res .cur } ≡ seek (λ y. eqb y m) (nextMessage (boardOf z (now (b .entry)))) (z .messages) 0 x ⌝ }
+    ensures { λ res. ⌜ record { prev = res .prev; cur = res .cur } ≡ spotOf z (now (b .entry)) x m ⌝ }
 {
     let mut left = z.messages;
     let mut prev: u16 = 0;
@@ -91,7 +89,7 @@ pub fn place_of_message(z: Size, b: &[u8], x: u16, m: u16) -> Found
 
 // Where a task of priority number p goes in the task queue that starts at x: behind its equals.
 pub fn place_for_task(z: Size, b: &[u8], x: u16, p: u8) -> Found
-    ensures { λ res. ⌜ record { prev = res .prev; cur = res .cur } ≡ seek (λ y. goesBefore true p (taskNumber (boardOf z (now (b .entry))) y)) (nextTask (boardOf z (now (b .entry)))) (z .messages) 0 x ⌝ }
+    ensures { λ res. ⌜ record { prev = res .prev; cur = res .cur } ≡ spotForTask z (now (b .entry)) x p ⌝ }
 {
     let mut left = z.messages;
     let mut prev: u16 = 0;
@@ -122,7 +120,7 @@ pub fn place_for_task(z: Size, b: &[u8], x: u16, p: u8) -> Found
 
 // Where the task k stands in the task queue that starts at x.
 pub fn place_of_task(z: Size, b: &[u8], x: u16, k: u16) -> Found
-    ensures { λ res. ⌜ record { prev = res .prev; cur = res .cur } ≡ seek (λ y. eqb y k) (nextTask (boardOf z (now (b .entry)))) (z .messages) 0 x ⌝ }
+    ensures { λ res. ⌜ record { prev = res .prev; cur = res .cur } ≡ spotOfTask z (now (b .entry)) x k ⌝ }
 {
     let mut left = z.messages;
     let mut prev: u16 = 0;

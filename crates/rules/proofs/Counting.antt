@@ -1,13 +1,13 @@
 -- Counting: how many pass a test, how many each of several tests let pass, and sums that are as large as they can be.
 -- Assumes nothing.
 use mathlib.Core.Path.{_≡_, refl, sym, ap, ap₂, _∙_}
-use mathlib.Core.Bool.{Bool, true, false, cond, true≢false}
+use mathlib.Core.Bool.{Bool, true, false, cond}
 use mathlib.Core.List.{List, [], _∷_}
-use Prim.Native.Nat.{ℕ, zero, suc, _+_, _-_, _≤_, _<_}
+use Prim.Native.Nat.{ℕ, zero, suc, _+_, _≤_, _<_}
 use native.Mathlib.Omega.{arith}
 use lib.ListN.{length, getD}
 use lib.Dec.{eqb}
-use borrow.Author.Tests.{eqb-true, eqb-false, eq-eqb, ne-eqb}
+use borrow.Author.Tests.{eqb-true, eqb-false, ne-eqb}
 use Rattle.links.specs.Queue.{consIf, which}
 use Rattle.links.proofs.Exactly.{one}
 use Rattle.board.specs.Board.{nth}
@@ -68,7 +68,8 @@ pub sum-once : (j n : ℕ) → 1 ≤ j → j ≤ n → sumTo (λ k. one (eqb j k
 sum-once j zero h i = absurd (omega arith)
 sum-once j (suc n) h i = go (eqb j (suc n)) refl (λ m. sum-once j n h m)
   where
-    go : (t : Bool) → eqb j (suc n) ≡ t → (j ≤ n → sumTo (λ k. one (eqb j k)) n ≡ 1) → sumTo (λ k. one (eqb j k)) n + one (eqb j (suc n)) ≡ 1
+    go : (t : Bool) → eqb j (suc n) ≡ t → (j ≤ n → sumTo (λ k. one (eqb j k)) n ≡ 1)
+        → sumTo (λ k. one (eqb j k)) n + one (eqb j (suc n)) ≡ 1
     go true e ih = let p = sum-past j n (let q = eqb-true j (suc n) e in omega arith) in let d = ap one e in omega arith
     go false e ih =
         let q = eqb-false j (suc n) e in
@@ -96,7 +97,10 @@ sum-tight f g (suc n) h e k i j = go (eqb k (suc n)) refl (λ a b. sum-tight f g
     last = h (suc n) (omega arith) (omega arith)
 
     go : (t : Bool) → eqb k (suc n) ≡ t → (sumTo f n ≡ sumTo g n → k ≤ n → f k ≡ g k) → f k ≡ g k
-    go true q ih = let r = eqb-true k (suc n) q in ap f r ∙ (let d : f (suc n) ≡ g (suc n) = omega (arith, lower, last) in d) ∙ ap g (sym r)
+    go true q ih =
+        let r = eqb-true k (suc n) q in
+        let d : f (suc n) ≡ g (suc n) = omega (arith, lower, last) in
+        ap f r ∙ d ∙ ap g (sym r)
     go false q ih = let r = eqb-false k (suc n) q in ih (omega (arith, lower, last)) (omega (arith, r))
 
 pub sums-equal : (f g : ℕ → ℕ) (n : ℕ) → ((k : ℕ) → 1 ≤ k → k ≤ n → f k ≡ g k) → sumTo f n ≡ sumTo g n
@@ -127,12 +131,14 @@ counted-which none f s (x ∷ l) =
 
 -- several tests of which each element passes as many as g says: their counts add up to g's
 pub counts-add : {A : Type 0} (f : ℕ → A → Bool) (g : A → Bool) (Fine : A → Type 0) (n s : ℕ)
-    → ((x : A) → Fine x → sumTo (λ k. one (f k x)) n ≡ one (g x)) → (l : List A) → ((i : ℕ) → i < length l → (none : A) → Fine (getD l i none))
+    → ((x : A) → Fine x → sumTo (λ k. one (f k x)) n ≡ one (g x)) → (l : List A)
+    → ((i : ℕ) → i < length l → (none : A) → Fine (getD l i none))
     → sumTo (λ k. length (which (f k) s l)) n ≡ length (which g s l)
 counts-add f g Fine n s h [] all = sum-zero n
 counts-add f g Fine n s h (x ∷ l) all =
     sum-same (λ k. length (which (f k) s (x ∷ l))) (λ k. one (f k x) + length (which (f k) (suc s) l)) n
     (λ k. length-consIf (f k x) s (which (f k) (suc s) l))
     ∙ sum-add (λ k. one (f k x)) (λ k. length (which (f k) (suc s) l)) n
-    ∙ ap₂ (λ (a b : ℕ). a + b) (h x (all 0 (omega arith) x)) (counts-add f g Fine n (suc s) h l (λ i j none. all (suc i) (omega arith) none))
+    ∙ ap₂ (λ (a b : ℕ). a + b) (h x (all 0 (omega arith) x))
+    (counts-add f g Fine n (suc s) h l (λ i j none. all (suc i) (omega arith) none))
     ∙ sym (length-consIf (g x) s (which g (suc s) l))

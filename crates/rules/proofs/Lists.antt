@@ -1,8 +1,9 @@
--- The counting walks say what R3 and R5 say: links that see only what belongs to a queue, and as many as there are, see exactly those.
+-- The counting walks say what R3 and R5 say: links that see only what belongs to a queue, and as many as there are, see exactly
+-- those.
 -- Assumes nothing.
 use mathlib.Core.Path.{_≡_, refl, sym, ap, ap₂, _∙_, subst}
 use mathlib.Core.Logic.{_↔_}
-use mathlib.Core.Bool.{Bool, true, false, cond, _&&_, true≢false}
+use mathlib.Core.Bool.{Bool, true, false, cond, _&&_}
 use mathlib.Core.List.{List, [], _∷_, map}
 use Prim.Native.Nat.{ℕ, zero, suc, _+_, _-_, _≤_, _<_}
 use native.Mathlib.Omega.{arith}
@@ -12,19 +13,17 @@ use borrow.Author.Tests.{eqb-true, eqb-false, eq-eqb}
 use Rattle.links.specs.Queue.{walk, ends, which, rearranged, rising, lists, each}
 use Rattle.links.specs.Chain.{In, Once, All}
 use Rattle.links.proofs.Bools.{both, and-true, each-at, each-all}
-use Rattle.links.proofs.Members.{all-at, all-of, all-map, once-length}
+use Rattle.links.proofs.Members.{all-of, once-length}
 use Rattle.links.proofs.Chains.{walk-chain, chain-once}
 use Rattle.links.proofs.Exactly.{one, rearranged-in, rearranged-length, which-once}
 use Rattle.links.proofs.Listed.{lists-counted}
 use Rattle.board.specs.declared.numbers.Size.{Size}
-use Rattle.board.specs.declared.numbers.TaskNo.{TaskNo}
-use Rattle.board.specs.declared.records.Task.{Task}
 use Rattle.board.specs.declared.places.Place.{Place}
 use Rattle.board.specs.declared.places.Place.the-variants.{Free, HeldBy, QueuedAt, Nowhere}
 use Rattle.board.specs.Numbers.{outside}
 use Rattle.board.specs.Records.{noTask}
 use Rattle.board.specs.Places.{placeOf, placeIn, isQueuedAt}
-use Rattle.board.specs.Board.{Board, boardOf, placeArea, pieces, nth, task, place}
+use Rattle.board.specs.Board.{Board, boardOf, placeArea, pieces, task}
 use Rattle.board.proofs.Codec.{place-free, place-held, place-receiver, place-nowhere}
 use Rattle.board.proofs.Pieces.{outside-within}
 use Rattle.paper.specs.Rules.{isThere, present, nextTask, nextMessage, taskNumber, messageNumber, rule3, rule5At}
@@ -73,15 +72,18 @@ module _ (next number : ℕ → ℕ) (good : ℕ → Bool) (n x : ℕ) (members 
   -- it sees no more than there are
   pub orderly-bound : orderly next number good n x 0 ≡ true → length (walk next n x) ≤ length members
   orderly-bound e =
-      let p = orderly-parts e in once-length (walk next n x) members (chain-once next x (walk next n x) (walk-chain next n x (p .0))) (p .1)
+      let p = orderly-parts e in
+      once-length (walk next n x) members (chain-once next x (walk next n x) (walk-chain next n x (p .0))) (p .1)
 
-  seen-lists : orderly next number good n x 0 && eqb (length (walk next n x)) (length members) ≡ true → lists next number n x members ≡ true
+  seen-lists : orderly next number good n x 0 && eqb (length (walk next n x)) (length members) ≡ true
+      → lists next number n x members ≡ true
   seen-lists e =
       let s = both (orderly next number good n x 0) (eqb (length (walk next n x)) (length members)) e in
       let p = orderly-parts (s .0) in
       lists-counted next number n x members (p .0) (p .1) (eqb-true (length (walk next n x)) (length members) (s .1)) (p .2)
 
-  lists-seen : lists next number n x members ≡ true → orderly next number good n x 0 && eqb (length (walk next n x)) (length members) ≡ true
+  lists-seen : lists next number n x members ≡ true
+      → orderly next number good n x 0 && eqb (length (walk next n x)) (length members) ≡ true
   lists-seen e =
       let s = both (ends next n x && rearranged (walk next n x) members) (rising number 0 (walk next n x)) e in
       let p = both (ends next n x) (rearranged (walk next n x) members) (s .0) in
@@ -93,11 +95,14 @@ module _ (next number : ℕ → ℕ) (good : ℕ → Bool) (n x : ℕ) (members 
 
   -- R3 and R5 of one queue: an orderly walk that saw as many as there are
   pub lists-is : lists next number n x members ≡ orderly next number good n x 0 && eqb (length (walk next n x)) (length members)
-  lists-is = alike (lists next number n x members) (orderly next number good n x 0 && eqb (length (walk next n x)) (length members)) lists-seen seen-lists
+  lists-is =
+      alike (lists next number n x members) (orderly next number good n x 0 && eqb (length (walk next n x)) (length members))
+      lists-seen seen-lists
 
 -- ---- R3
 pub rule3-is : (z : Size) (b : Board) → length (b .tasks) ≡ z .tasks
-    → saw (visited (nextTask b) (taskNumber b) (present b) (z .messages) (b .first) 0 0) (counted (present b) (z .tasks)) ≡ rule3 z b
+    → saw (visited (nextTask b) (taskNumber b) (present b) (z .messages) (b .first) 0 0) (counted (present b) (z .tasks))
+    ≡ rule3 z b
 rule3-is z b e =
     let q : List ℕ = walk (nextTask b) (z .messages) (b .first) in
     let m : List ℕ = which isThere 1 (b .tasks) in
@@ -168,7 +173,8 @@ module _ (z : Size) (b : Board) where
       (which-once (isQueuedAt k) 1 (b .places)) (belongs-at k)
 
   -- all walks together
-  added-cond : (s t : Bool) (m n : ℕ) → added (cond s (Seen m) Broken) (cond t (Seen n) Broken) ≡ cond (s && t) (Seen (m + n)) Broken
+  added-cond : (s t : Bool) (m n : ℕ)
+      → added (cond s (Seen m) Broken) (cond t (Seen n) Broken) ≡ cond (s && t) (Seen (m + n)) Broken
   added-cond true true m n = refl
   added-cond true false m n = refl
   added-cond false t m n = refl
@@ -186,18 +192,22 @@ module _ (z : Size) (b : Board) where
       → each (rule5At z b) n ≡ true
   sum-each n e =
       let s = both (each fine n) (eqb (sumTo (λ k. length (walkOf k)) n) (sumTo (λ k. length (placedAt k)) n)) e in
-      let t = sum-tight (λ k. length (walkOf k)) (λ k. length (placedAt k)) n (λ k i j. fine-bound k (each-at fine n (s .0) k i j)) (eqb-true _ _ (s .1)) in
+      let t =
+      sum-tight (λ k. length (walkOf k)) (λ k. length (placedAt k)) n (λ k i j. fine-bound k (each-at fine n (s .0) k i j))
+      (eqb-true _ _ (s .1)) in
       each-all (rule5At z b) n (λ k i j. rule5-at k ∙ and-true (fine k) _ (each-at fine n (s .0) k i j) (eq-eqb _ _ (t k i j)))
 
   each-sum : (n : ℕ) → each (rule5At z b) n ≡ true
       → each fine n && eqb (sumTo (λ k. length (walkOf k)) n) (sumTo (λ k. length (placedAt k)) n) ≡ true
   each-sum n e =
       let at : (k : ℕ) → 1 ≤ k → k ≤ n → (fine k ≡ true) × (eqb (length (walkOf k)) (length (placedAt k)) ≡ true) =
-      λ k i j. both (fine k) (eqb (length (walkOf k)) (length (placedAt k))) (sym (rule5-at k) ∙ each-at (rule5At z b) n e k i j) in
+      λ k i j. both (fine k) (eqb (length (walkOf k)) (length (placedAt k)))
+      (sym (rule5-at k) ∙ each-at (rule5At z b) n e k i j) in
       and-true (each fine n) _ (each-all fine n (λ k i j. at k i j .0))
       (eq-eqb _ _ (sums-equal (λ k. length (walkOf k)) (λ k. length (placedAt k)) n (λ k i j. eqb-true _ _ (at k i j .1))))
 
-  pub rule5-is : length (b .places) ≡ z .messages → ((i : ℕ) → i < length (b .places) → (none : Place) → Named z (getD (b .places) i none))
+  pub rule5-is : length (b .places) ≡ z .messages
+      → ((i : ℕ) → i < length (b .places) → (none : Place) → Named z (getD (b .places) i none))
       → saw (walked z b (z .tasks)) (counted (queued b) (z .messages)) ≡ each (rule5At z b) (z .tasks)
   rule5-is e named =
       let w = sumTo (λ k. length (walkOf k)) (z .tasks) in

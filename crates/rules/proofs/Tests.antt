@@ -1,10 +1,10 @@
--- Tests of the code that are a definition's in other words: bytes 1 to 3, and a place that is queued or not.
+-- Tests of the code that are a definition's in other words: bytes 1 to 3, flags, a place that is queued or not, who runs.
 -- Assumes nothing.
-use mathlib.Core.Path.{_≡_, refl, sym, ap, ap₂, _∙_}
-use mathlib.Core.Logic.{_⊎_, inl, inr, ⊎-elim}
-use mathlib.Core.Bool.{Bool, true, false, not, _&&_, _||_, and-true, true≢false}
+use mathlib.Core.Path.{_≡_, refl, sym, ap, _∙_}
+use mathlib.Core.Logic.{⊎-elim}
+use mathlib.Core.Bool.{Bool, true, false, not, _&&_, _||_, and-true, and-false, true≢false}
 use mathlib.Core.List.{List, [], _∷_}
-use Prim.Native.Nat.{ℕ, zero, suc}
+use Prim.Native.Nat.{ℕ}
 use native.Mathlib.Omega.{arith}
 use lib.Dec.{eqb}
 use lib.ListN.{getD, take, drop}
@@ -16,11 +16,12 @@ use Rattle.board.specs.declared.numbers.TaskNo.{TaskNo}
 use Rattle.board.specs.declared.numbers.TaskMeant.{TaskMeant}
 use Rattle.board.specs.declared.numbers.TaskMeant.the-variants as means
 use Rattle.board.specs.declared.numbers.TaskMeant.the-variants.{NoTask}
+use Rattle.board.specs.declared.status.Status.{Status}
 use Rattle.board.specs.declared.records.Task.{Task}
 use Rattle.board.specs.declared.places.Place.{Place}
 use Rattle.board.specs.declared.places.Place.the-variants.{Free, HeldBy, QueuedAt, Nowhere}
 use Rattle.board.specs.Numbers.{outside, taskMeant}
-use Rattle.board.specs.Status.{MHBS, has}
+use Rattle.board.specs.Status.{WAIT, IWAT, INTQ, MHBS, has}
 use Rattle.board.specs.Records.{noTask}
 use Rattle.board.specs.Places.{isQueuedAt}
 use Rattle.board.specs.Board.{boardOf, task}
@@ -28,7 +29,7 @@ use Rattle.board.proofs.places.Place.{the-type}
 use Rattle.board.proofs.Pieces.{nth-outside}
 use Rattle.board.proofs.Codec.{length-tasks}
 use Rattle.board.proofs.Meant.{taskMeant-task, taskMeant-none}
-use Rattle.paper.specs.Rules.{running, allZero, rule7}
+use Rattle.paper.specs.Rules.{running, allZero, goodFlags, rule7}
 use Rattle.rules.specs.Walks.{isQueued}
 
 -- ---- bytes 1 to 3
@@ -40,11 +41,40 @@ zeros-read (x ∷ y ∷ []) = refl
 zeros-read (x ∷ y ∷ u ∷ []) = refl
 zeros-read (x ∷ y ∷ u ∷ v ∷ l) = ap (λ (t : Bool). eqb y 0 && (eqb u 0 && t)) (and-true (eqb v 0))
 
--- ---- flags
--- a test that follows from the one before it
-pub absorbed : (s t : Bool) → s && (s || t) ≡ s
+-- ---- R6: the flags of a task, and whether its queue is empty
+absorbed : (s t : Bool) → s && (s || t) ≡ s
 absorbed true t = refl
 absorbed false t = refl
+
+module _ (s : Status) (empty : Bool) where
+  -- WAIT and IWAT
+  pub flags-wait-twice : has s WAIT ≡ true → has s IWAT ≡ true → false ≡ goodFlags s empty
+  flags-wait-twice w i = rw (w, i)
+
+  -- WAIT and MHBS
+  pub flags-wait-due : has s WAIT ≡ true → has s IWAT ≡ false → has s MHBS ≡ true → false ≡ goodFlags s empty
+  flags-wait-due w i d = rw (w, i, d, and-false empty)
+
+  -- WAIT alone of the three: nothing is queued
+  pub flags-wait : has s WAIT ≡ true → has s IWAT ≡ false → has s MHBS ≡ false → empty ≡ goodFlags s empty
+  flags-wait w i d = rw (w, i, d, and-true empty, and-true empty, and-true empty)
+
+  -- IWAT and INTQ
+  pub flags-iwat-asked : has s WAIT ≡ false → has s IWAT ≡ true → has s INTQ ≡ true → false ≡ goodFlags s empty
+  flags-iwat-asked w i q = rw (w, i, q)
+
+  -- IWAT and neither WAIT nor INTQ: it isn't due a message
+  pub flags-iwat : has s WAIT ≡ false → has s IWAT ≡ true → has s INTQ ≡ false → (d : Bool) → d ≡ has s MHBS
+      → not d ≡ goodFlags s empty
+  flags-iwat w i q d e = rw (w, i, q, ← e, absorbed (not d) (not empty))
+
+  -- it doesn't wait and is due a message: one is queued
+  pub flags-due : has s WAIT ≡ false → has s IWAT ≡ false → has s MHBS ≡ true → not empty ≡ goodFlags s empty
+  flags-due w i d = rw (w, i, d)
+
+  -- it doesn't wait and is not due one
+  pub flags-none : has s WAIT ≡ false → has s IWAT ≡ false → has s MHBS ≡ false → true ≡ goodFlags s empty
+  flags-none w i d = rw (w, i, d)
 
 -- ---- places: the code holds the place p as q
 module _ (p q : Place) (e : q ≡ p) where
@@ -82,12 +112,12 @@ module _ (z : Size) (l : List ℕ) (w : TaskMeant) (e : w ≡ taskMeant z (runni
   pub nobody-due : w ≡ NoTask → true ≡ rule7 z (boardOf z l)
   nobody-due h =
       let r = running z (boardOf z l) in
-      ap (λ (t : Task). not (has (t .stat) MHBS))
-      (sym (nth-outside noTask (boardOf z l .tasks) r (ap (λ (n : ℕ). outside n r) (length-tasks z l) ∙ taskMeant-none z r (sym e ∙ h))))
+      let o = ap (λ (n : ℕ). outside n r) (length-tasks z l) ∙ taskMeant-none z r (sym e ∙ h) in
+      ap (λ (t : Task). not (has (t .stat) MHBS)) (sym (nth-outside noTask (boardOf z l .tasks) r o))
 
   -- the task c of the record t, which is due one if u says so
-  pub somebody-due : (c : TaskNo) (t : Task) (u : Bool) → w ≡ means.Task c → t ≡ task (boardOf z l) (c .0) → u ≡ has (t .stat) MHBS
-      → not u ≡ rule7 z (boardOf z l)
+  pub somebody-due : (c : TaskNo) (t : Task) (u : Bool) → w ≡ means.Task c → t ≡ task (boardOf z l) (c .0)
+      → u ≡ has (t .stat) MHBS → not u ≡ rule7 z (boardOf z l)
   somebody-due c t u h f g =
       let i = taskMeant-task z (running z (boardOf z l)) c (sym e ∙ h) .1 in
       ap not (g ∙ ap (λ (s : Task). has (s .stat) MHBS) (f ∙ ap (λ (k : TaskNo). task (boardOf z l) (k .0)) i))

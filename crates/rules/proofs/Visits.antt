@@ -71,7 +71,8 @@ module _ (next number : ℕ → ℕ) (good : ℕ → Bool) where
   abbrev pub orderly : ℕ → ℕ → ℕ → Bool
   orderly n x low = ends next n x && (every (walk next n x) && rising number low (walk next n x))
 
-  visited-is : (n x low s : ℕ) → visited next number good n x low s ≡ cond (orderly n x low) (Seen (s + length (walk next n x))) Broken
+  visited-is : (n x low s : ℕ)
+      → visited next number good n x low s ≡ cond (orderly n x low) (Seen (s + length (walk next n x))) Broken
   unfolding visited
   visited-is zero x low s = go (eqb x 0)
     where
@@ -79,10 +80,17 @@ module _ (next number : ℕ → ℕ) (good : ℕ → Bool) where
       go true = ap Seen (let e : s ≡ s + 0 = omega arith in e)
       go false = refl
   visited-is (suc n) zero low s = ap Seen (let e : s ≡ s + 0 = omega arith in e)
-  visited-is (suc n) (suc x) low s = go (good (suc x)) (leb low (number (suc x))) (visited-is n (next (suc x)) (number (suc x)) (suc s))
+  visited-is (suc n) (suc x) low s =
+      go (good (suc x)) (leb low (number (suc x))) (visited-is n (next (suc x)) (number (suc x)) (suc s))
     where
       q : List ℕ
       q = walk next n (next (suc x))
+
+      end : Bool
+      end = ends next n (next (suc x))
+
+      rises : Bool
+      rises = rising number (number (suc x)) q
 
       swap : (t u v : Bool) → t && (u && v) ≡ t && (true && u && (true && v))
       swap true u v = refl
@@ -96,18 +104,18 @@ module _ (next number : ℕ → ℕ) (good : ℕ → Bool) where
       go : (t u : Bool) → visited next number good n (next (suc x)) (number (suc x)) (suc s)
           ≡ cond (orderly n (next (suc x)) (number (suc x))) (Seen (suc s + length q)) Broken
           → cond (t && u) (visited next number good n (next (suc x)) (number (suc x)) (suc s)) Broken
-          ≡ cond (ends next n (next (suc x)) && (t && every q && (u && rising number (number (suc x)) q))) (Seen (s + suc (length q))) Broken
+          ≡ cond (end && (t && every q && (u && rises))) (Seen (s + suc (length q))) Broken
       go true true e =
-          e ∙ ap₂ (λ (t : Bool) (m : ℕ). cond t (Seen m) Broken) (swap (ends next n (next (suc x))) (every q) (rising number (number (suc x)) q))
+          e ∙ ap₂ (λ (t : Bool) (m : ℕ). cond t (Seen m) Broken) (swap end (every q) rises)
           (let f : suc s + length q ≡ s + suc (length q) = omega arith in f)
-      go true false e = ap (λ (t : Bool). cond t (Seen (s + suc (length q))) Broken) (sym (none (ends next n (next (suc x))) (every q) (rising number (number (suc x)) q) .1))
-      go false u e = ap (λ (t : Bool). cond t (Seen (s + suc (length q))) Broken) (sym (none (ends next n (next (suc x))) (every q) (u && rising number (number (suc x)) q) .0))
+      go true false e = ap (λ (t : Bool). cond t (Seen (s + suc (length q))) Broken) (sym (none end (every q) rises .1))
+      go false u e = ap (λ (t : Bool). cond t (Seen (s + suc (length q))) Broken) (sym (none end (every q) (u && rises) .0))
 
   -- a whole walk
   pub visited-whole : (n x : ℕ) → visited next number good n x 0 0 ≡ cond (orderly n x 0) (Seen (length (walk next n x))) Broken
   visited-whole n x =
-      visited-is n x 0 0
-      ∙ ap (λ (m : ℕ). cond (orderly n x 0) (Seen m) Broken) (let e : 0 + length (walk next n x) ≡ length (walk next n x) = omega arith in e)
+      let e : 0 + length (walk next n x) ≡ length (walk next n x) = omega arith in
+      visited-is n x 0 0 ∙ ap (λ (m : ℕ). cond (orderly n x 0) (Seen m) Broken) e
 
   -- how many it saw
   abbrev seenIn : Walked → ℕ

@@ -140,7 +140,7 @@ fn good_held(z: Size, b: &[u8], r: Message, k: TaskNo) -> bool
     if !good_pointers(z, r) {
         return false;
     }
-    if r.link != 0 {
+    if 0 < r.link {
         return false;
     }
     present_at(z, b, k)

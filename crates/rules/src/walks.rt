@@ -45,11 +45,11 @@ fn task_turn(z: Size, b: &[u8], k: u16, low: u8) -> Turn
 fn walk_tasks(z: Size, b: &[u8]) -> Walked
     ensures { λ res. ⌜ res ≡ visited (nextTask (boardOf z (now (b .entry)))) (taskNumber (boardOf z (now (b .entry)))) (present (boardOf z (now (b .entry)))) (z .messages) (boardOf z (now (b .entry)) .first) 0 0 ⌝ }
 {
-    let most = z.messages as u32;
+    let limit = z.messages as u32;
     let mut link = first_task(b) as u16;
     let mut low: u8 = 0;
     let mut seen: u32 = 0;
-    while seen < most {
+    while seen < limit {
         if link == 0 {
             return Walked::Seen(seen);
         }

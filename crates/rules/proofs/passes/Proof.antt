@@ -1,4 +1,4 @@
-use mathlib.Core.Path.{_≡_, sym, ap, _∙_}
+use mathlib.Core.Path.{sym, _∙_}
 use borrow.Author.Tests.{not-true, not-false}
 use borrow.Author.Needs.{needs}
 use Rattle.rules.proofs.passes.Statement.{statement}
@@ -27,7 +27,11 @@ rule2-requires c κs = search needs
 
 -- src/lib.rt:20:9
 returns-2 : tie.Need-returns-2
-returns-2 c = rw (sym (c .before .before .before .rule1 .ensures) ∙ not-false _ (c .before .before .if1 .left), sym (c .before .rule2 .ensures) ∙ not-true _ (c .if2 .taken))
+returns-2 c =
+    rw (
+      sym (c .before .before .before .rule1 .ensures) ∙ not-false _ (c .before .before .if1 .left),
+      sym (c .before .rule2 .ensures) ∙ not-true _ (c .if2 .taken),
+    )
 
 -- src/lib.rt:22:9
 rule3-requires : tie.Need-rule3-requires
@@ -35,7 +39,13 @@ rule3-requires c κs = search needs
 
 -- src/lib.rt:23:9
 returns-3 : tie.Need-returns-3
-returns-3 c = rw (sym (c .before .before .before .before .before .rule1 .ensures) ∙ not-false _ (c .before .before .before .before .if1 .left), sym (c .before .before .before .rule2 .ensures) ∙ not-false _ (c .before .before .if2 .left), sym (c .before .rule3 .ensures) ∙ not-true _ (c .if3 .taken))
+returns-3 c =
+    rw (
+      sym (c .before .before .before .before .before .rule1 .ensures) ∙ not-false _
+          (c .before .before .before .before .if1 .left),
+      sym (c .before .before .before .rule2 .ensures) ∙ not-false _ (c .before .before .if2 .left),
+      sym (c .before .rule3 .ensures) ∙ not-true _ (c .if3 .taken),
+    )
 
 -- src/lib.rt:25:9
 rule4-requires : tie.Need-rule4-requires
@@ -43,7 +53,15 @@ rule4-requires c κs = search needs
 
 -- src/lib.rt:26:9
 returns-4 : tie.Need-returns-4
-returns-4 c = rw (sym (c .before .before .before .before .before .before .before .rule1 .ensures) ∙ not-false _ (c .before .before .before .before .before .before .if1 .left), sym (c .before .before .before .before .before .rule2 .ensures) ∙ not-false _ (c .before .before .before .before .if2 .left), sym (c .before .before .before .rule3 .ensures) ∙ not-false _ (c .before .before .if3 .left), sym (c .before .rule4 .ensures) ∙ not-true _ (c .if4 .taken))
+returns-4 c =
+    rw (
+      sym (c .before .before .before .before .before .before .before .rule1 .ensures) ∙ not-false _
+          (c .before .before .before .before .before .before .if1 .left),
+      sym (c .before .before .before .before .before .rule2 .ensures) ∙ not-false _
+          (c .before .before .before .before .if2 .left),
+      sym (c .before .before .before .rule3 .ensures) ∙ not-false _ (c .before .before .if3 .left),
+      sym (c .before .rule4 .ensures) ∙ not-true _ (c .if4 .taken),
+    )
 
 -- src/lib.rt:28:9
 rule5-requires : tie.Need-rule5-requires
@@ -51,7 +69,17 @@ rule5-requires c κs = search needs
 
 -- src/lib.rt:29:9
 returns-5 : tie.Need-returns-5
-returns-5 c = rw (sym (c .before .before .before .before .before .before .before .before .before .rule1 .ensures) ∙ not-false _ (c .before .before .before .before .before .before .before .before .if1 .left), sym (c .before .before .before .before .before .before .before .rule2 .ensures) ∙ not-false _ (c .before .before .before .before .before .before .if2 .left), sym (c .before .before .before .before .before .rule3 .ensures) ∙ not-false _ (c .before .before .before .before .if3 .left), sym (c .before .before .before .rule4 .ensures) ∙ not-false _ (c .before .before .if4 .left), sym (c .before .rule5 .ensures) ∙ not-true _ (c .if5 .taken))
+returns-5 c =
+    rw (
+      sym (c .before .before .before .before .before .before .before .before .before .rule1 .ensures) ∙ not-false _
+          (c .before .before .before .before .before .before .before .before .if1 .left),
+      sym (c .before .before .before .before .before .before .before .rule2 .ensures) ∙ not-false _
+          (c .before .before .before .before .before .before .if2 .left),
+      sym (c .before .before .before .before .before .rule3 .ensures) ∙ not-false _
+          (c .before .before .before .before .if3 .left),
+      sym (c .before .before .before .rule4 .ensures) ∙ not-false _ (c .before .before .if4 .left),
+      sym (c .before .rule5 .ensures) ∙ not-true _ (c .if5 .taken),
+    )
 
 -- src/lib.rt:31:9
 rule6-requires : tie.Need-rule6-requires
@@ -59,7 +87,19 @@ rule6-requires c κs = search needs
 
 -- src/lib.rt:32:9
 returns-6 : tie.Need-returns-6
-returns-6 c = rw (sym (c .before .before .before .before .before .before .before .before .before .before .before .rule1 .ensures) ∙ not-false _ (c .before .before .before .before .before .before .before .before .before .before .if1 .left), sym (c .before .before .before .before .before .before .before .before .before .rule2 .ensures) ∙ not-false _ (c .before .before .before .before .before .before .before .before .if2 .left), sym (c .before .before .before .before .before .before .before .rule3 .ensures) ∙ not-false _ (c .before .before .before .before .before .before .if3 .left), sym (c .before .before .before .before .before .rule4 .ensures) ∙ not-false _ (c .before .before .before .before .if4 .left), sym (c .before .before .before .rule5 .ensures) ∙ not-false _ (c .before .before .if5 .left), sym (c .before .rule6 .ensures) ∙ not-true _ (c .if6 .taken))
+returns-6 c =
+    rw (
+      sym (c .before .before .before .before .before .before .before .before .before .before .before .rule1 .ensures)
+          ∙ not-false _ (c .before .before .before .before .before .before .before .before .before .before .if1 .left),
+      sym (c .before .before .before .before .before .before .before .before .before .rule2 .ensures) ∙ not-false _
+          (c .before .before .before .before .before .before .before .before .if2 .left),
+      sym (c .before .before .before .before .before .before .before .rule3 .ensures) ∙ not-false _
+          (c .before .before .before .before .before .before .if3 .left),
+      sym (c .before .before .before .before .before .rule4 .ensures) ∙ not-false _
+          (c .before .before .before .before .if4 .left),
+      sym (c .before .before .before .rule5 .ensures) ∙ not-false _ (c .before .before .if5 .left),
+      sym (c .before .rule6 .ensures) ∙ not-true _ (c .if6 .taken),
+    )
 
 -- src/lib.rt:34:5
 rule7-requires : tie.Need-rule7-requires
@@ -67,7 +107,19 @@ rule7-requires c κs = search needs
 
 -- src/lib.rt:13:1
 returns-7 : tie.Need-returns-7
-returns-7 c = rw (sym (c .before .before .before .before .before .before .before .before .before .before .before .before .rule1 .ensures) ∙ not-false _ (c .before .before .before .before .before .before .before .before .before .before .before .if1 .left), sym (c .before .before .before .before .before .before .before .before .before .before .rule2 .ensures) ∙ not-false _ (c .before .before .before .before .before .before .before .before .before .if2 .left), sym (c .before .before .before .before .before .before .before .before .rule3 .ensures) ∙ not-false _ (c .before .before .before .before .before .before .before .if3 .left), sym (c .before .before .before .before .before .before .rule4 .ensures) ∙ not-false _ (c .before .before .before .before .before .if4 .left), sym (c .before .before .before .before .rule5 .ensures) ∙ not-false _ (c .before .before .before .if5 .left), sym (c .before .before .rule6 .ensures) ∙ not-false _ (c .before .if6 .left)) (c .rule7 .ensures)
+returns-7 c =
+    rw (
+      sym (c .before .before .before .before .before .before .before .before .before .before .before .before .rule1 .ensures)
+          ∙ not-false _ (c .before .before .before .before .before .before .before .before .before .before .before .if1 .left),
+      sym (c .before .before .before .before .before .before .before .before .before .before .rule2 .ensures) ∙ not-false _
+          (c .before .before .before .before .before .before .before .before .before .if2 .left),
+      sym (c .before .before .before .before .before .before .before .before .rule3 .ensures) ∙ not-false _
+          (c .before .before .before .before .before .before .before .if3 .left),
+      sym (c .before .before .before .before .before .before .rule4 .ensures) ∙ not-false _
+          (c .before .before .before .before .before .if4 .left),
+      sym (c .before .before .before .before .rule5 .ensures) ∙ not-false _ (c .before .before .before .if5 .left),
+      sym (c .before .before .rule6 .ensures) ∙ not-false _ (c .before .if6 .left),
+    ) (c .rule7 .ensures)
 
 pub passes-spec : {M : Type 1} → statement M
 passes-spec =

@@ -1,6 +1,5 @@
-use mathlib.Core.Path.{_≡_, sym, ap, _∙_}
-use mathlib.Core.Bool.{not, and-true, and-false}
-use Rattle.rules.proofs.Tests.{absorbed}
+use mathlib.Core.Path.{sym, _∙_}
+use Rattle.rules.proofs.Tests.{flags-wait-twice, flags-wait-due, flags-wait, flags-iwat-asked, flags-iwat, flags-due, flags-none}
 use borrow.Author.Needs.{needs}
 use Rattle.rules.proofs.records.good_flags.Statement.{statement}
 use Rattle.rules.proofs.records.good_flags.Tie as tie
@@ -22,15 +21,28 @@ has-requires-3 c κs = search needs
 
 -- src/records.rt:198:13
 returns : tie.Need-returns
-returns c = rw (sym (c .before .before .before .has2 .ensures) ∙ c .before .before .if1 .taken, sym (c .before .has3 .ensures) ∙ c .if2 .taken)
+returns c =
+    flags-wait-twice (c .before .before .before .before .before .args .s) (c .before .before .before .before .before .args .empty)
+    (sym (c .before .before .before .has2 .ensures) ∙ c .before .before .if1 .taken)
+    (sym (c .before .has3 .ensures) ∙ c .if2 .taken)
 
 -- src/records.rt:201:13
 returns-2 : tie.Need-returns-2
-returns-2 c = rw (sym (c .before .before .before .before .has2 .ensures) ∙ c .before .before .before .if1 .taken, sym (c .before .before .has3 .ensures) ∙ c .before .if2 .left, sym (c .before .before .before .before .before .has .ensures) ∙ c .if3 .taken, and-false (c .before .before .before .before .before .before .args .empty))
+returns-2 c =
+    flags-wait-due (c .before .before .before .before .before .before .args .s)
+    (c .before .before .before .before .before .before .args .empty)
+    (sym (c .before .before .before .before .has2 .ensures) ∙ c .before .before .before .if1 .taken)
+    (sym (c .before .before .has3 .ensures) ∙ c .before .if2 .left)
+    (sym (c .before .before .before .before .before .has .ensures) ∙ c .if3 .taken)
 
 -- src/records.rt:203:9
 returns-3 : tie.Need-returns-3
-returns-3 c = rw (sym (c .before .before .before .before .has2 .ensures) ∙ c .before .before .before .if1 .taken, sym (c .before .before .has3 .ensures) ∙ c .before .if2 .left, sym (c .before .before .before .before .before .has .ensures) ∙ c .if3 .left, and-true (c .before .before .before .before .before .before .args .empty), and-true (c .before .before .before .before .before .before .args .empty), and-true (c .before .before .before .before .before .before .args .empty))
+returns-3 c =
+    flags-wait (c .before .before .before .before .before .before .args .s)
+    (c .before .before .before .before .before .before .args .empty)
+    (sym (c .before .before .before .before .has2 .ensures) ∙ c .before .before .before .if1 .taken)
+    (sym (c .before .before .has3 .ensures) ∙ c .before .if2 .left)
+    (sym (c .before .before .before .before .before .has .ensures) ∙ c .if3 .left)
 
 -- src/records.rt:205:8
 has-requires-4 : tie.Need-has-requires-4
@@ -42,19 +54,39 @@ has-requires-5 c κs = search needs
 
 -- src/records.rt:207:13
 returns-4 : tie.Need-returns-4
-returns-4 c = rw (sym (c .before .before .before .before .before .has2 .ensures) ∙ c .before .before .before .before .if1 .left, sym (c .before .before .before .has4 .ensures) ∙ c .before .before .if4 .taken, sym (c .before .has5 .ensures) ∙ c .if5 .taken)
+returns-4 c =
+    flags-iwat-asked (c .before .before .before .before .before .before .before .args .s)
+    (c .before .before .before .before .before .before .before .args .empty)
+    (sym (c .before .before .before .before .before .has2 .ensures) ∙ c .before .before .before .before .if1 .left)
+    (sym (c .before .before .before .has4 .ensures) ∙ c .before .before .if4 .taken)
+    (sym (c .before .has5 .ensures) ∙ c .if5 .taken)
 
 -- src/records.rt:209:9
 returns-5 : tie.Need-returns-5
-returns-5 c = rw (sym (c .before .before .before .before .before .has2 .ensures) ∙ c .before .before .before .before .if1 .left, sym (c .before .before .before .has4 .ensures) ∙ c .before .before .if4 .taken, sym (c .before .has5 .ensures) ∙ c .if5 .left, ← c .before .before .before .before .before .before .has .ensures, absorbed (not (c .before .before .before .before .before .before .has .result)) (not (c .before .before .before .before .before .before .before .args .empty)))
+returns-5 c =
+    flags-iwat (c .before .before .before .before .before .before .before .args .s)
+    (c .before .before .before .before .before .before .before .args .empty)
+    (sym (c .before .before .before .before .before .has2 .ensures) ∙ c .before .before .before .before .if1 .left)
+    (sym (c .before .before .before .has4 .ensures) ∙ c .before .before .if4 .taken)
+    (sym (c .before .has5 .ensures) ∙ c .if5 .left) _ (c .before .before .before .before .before .before .has .ensures)
 
 -- src/records.rt:212:9
 returns-6 : tie.Need-returns-6
-returns-6 c = rw (sym (c .before .before .before .before .has2 .ensures) ∙ c .before .before .before .if1 .left, sym (c .before .before .has4 .ensures) ∙ c .before .if4 .left, sym (c .before .before .before .before .before .has .ensures) ∙ c .if6 .taken)
+returns-6 c =
+    flags-due (c .before .before .before .before .before .before .args .s)
+    (c .before .before .before .before .before .before .args .empty)
+    (sym (c .before .before .before .before .has2 .ensures) ∙ c .before .before .before .if1 .left)
+    (sym (c .before .before .has4 .ensures) ∙ c .before .if4 .left)
+    (sym (c .before .before .before .before .before .has .ensures) ∙ c .if6 .taken)
 
 -- src/records.rt:192:1
 returns-7 : tie.Need-returns-7
-returns-7 c = rw (sym (c .before .before .before .before .has2 .ensures) ∙ c .before .before .before .if1 .left, sym (c .before .before .has4 .ensures) ∙ c .before .if4 .left, sym (c .before .before .before .before .before .has .ensures) ∙ c .if6 .left)
+returns-7 c =
+    flags-none (c .before .before .before .before .before .before .args .s)
+    (c .before .before .before .before .before .before .args .empty)
+    (sym (c .before .before .before .before .has2 .ensures) ∙ c .before .before .before .if1 .left)
+    (sym (c .before .before .has4 .ensures) ∙ c .before .if4 .left)
+    (sym (c .before .before .before .before .before .has .ensures) ∙ c .if6 .left)
 
 pub good-flags-spec : {M : Type 1} → statement M
 good-flags-spec =

@@ -1,4 +1,4 @@
-use mathlib.Core.Path.{_≡_, sym, ap, _∙_}
+use mathlib.Core.Path.{sym, _∙_}
 use borrow.Author.Tests.{not-true, not-false}
 use borrow.Author.Needs.{needs}
 use Rattle.rules.proofs.records.good_head.Statement.{statement}
@@ -22,7 +22,12 @@ has-requires-2 c κs = search needs
 
 -- src/records.rt:74:9
 returns-2 : tie.Need-returns-2
-returns-2 c = rw (sym (c .before .before .before .has .ensures) ∙ not-false _ (c .before .before .if1 .left), sym (c .before .has2 .ensures) ∙ c .if2 .taken)
+returns-2 c =
+    rw (
+      sym (c .before .before .before .has .ensures) ∙ not-false _ (c .before .before .if1 .left),
+      sym (c .before .has2 .ensures)
+          ∙ c .if2 .taken,
+    )
 
 -- src/records.rt:76:5
 task-prio-requires : tie.Need-task-prio-requires
@@ -30,10 +35,13 @@ task-prio-requires c κs = search needs
 
 -- src/records.rt:67:1
 returns-3 : tie.Need-returns-3
-returns-3 c = rw (sym (c .before .before .before .before .has .ensures) ∙ not-false _ (c .before .before .before .if1 .left), sym (c .before .before .has2 .ensures) ∙ c .before .if2 .left) (c .task-prio .ensures)
+returns-3 c =
+    rw (
+      sym (c .before .before .before .before .has .ensures) ∙ not-false _ (c .before .before .before .if1 .left),
+      sym
+          (c .before .before .has2 .ensures) ∙ c .before .if2 .left,
+    ) (c .task-prio .ensures)
 
 pub good-head-spec : {M : Type 1} → statement M
 good-head-spec =
     tie.close (tie.spec has-requires returns has-requires-2 returns-2 task-prio-requires returns-3)
-
--- x

@@ -1,4 +1,5 @@
-use mathlib.Core.Path.{_≡_, sym, ap, _∙_}
+use mathlib.Core.Path.{sym, _∙_}
+use native.Mathlib.Omega.{arith}
 use borrow.Author.Tests.{not-true, not-false, eq-eqb, ne-eqb}
 use borrow.Author.Needs.{needs}
 use Rattle.rules.proofs.records.good_held.Statement.{statement}
@@ -18,7 +19,12 @@ returns c = rw (sym (c .before .good-pointers .ensures) ∙ not-true _ (c .if1 .
 
 -- src/records.rt:144:9
 returns-2 : tie.Need-returns-2
-returns-2 c = rw (sym (c .before .before .before .good-pointers .ensures) ∙ not-false _ (c .before .before .if1 .left), ne-eqb _ _ (c .if2 .taken))
+returns-2 c =
+    rw (
+      sym (c .before .before .before .good-pointers .ensures) ∙ not-false _ (c .before .before .if1 .left),
+      ne-eqb
+          (c .before .before .before .before .before .args .r .link) 0 (λ e. omega arith),
+    )
 
 -- src/records.rt:146:5
 present-at-requires : tie.Need-present-at-requires
@@ -26,7 +32,11 @@ present-at-requires c κs = search needs
 
 -- src/records.rt:137:1
 returns-3 : tie.Need-returns-3
-returns-3 c = rw (sym (c .before .before .before .before .good-pointers .ensures) ∙ not-false _ (c .before .before .before .if1 .left), eq-eqb _ _ (c .before .if2 .left)) (c .present-at .ensures)
+returns-3 c =
+    rw (
+      sym (c .before .before .before .before .good-pointers .ensures) ∙ not-false _ (c .before .before .before .if1 .left),
+      eq-eqb (c .before .before .before .before .before .before .args .r .link) 0 (omega arith),
+    ) (c .present-at .ensures)
 
 pub good-held-spec : {M : Type 1} → statement M
 good-held-spec =

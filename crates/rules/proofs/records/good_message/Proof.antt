@@ -66,5 +66,3 @@ good-message-spec =
     returns-2
     returns-3
     returns-4)
-
--- x

@@ -14,5 +14,3 @@ returns-2 c = rw (le-leb _ _ (c .before .before .if1 .left))
 
 pub good-pointers-spec : {M : Type 1} → statement M
 good-pointers-spec = tie.close (tie.spec returns returns-2)
-
--- x

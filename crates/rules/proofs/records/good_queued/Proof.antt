@@ -1,4 +1,6 @@
-use mathlib.Core.Path.{_≡_, sym, ap, _∙_}
+use mathlib.Core.Bool.{and-false}
+use mathlib.Core.Path.{sym, _∙_}
+use native.Mathlib.Omega.{arith}
 use borrow.Author.Tests.{not-true, not-false, lt-ltb, le-ltb}
 use borrow.Author.Needs.{needs}
 use Rattle.rules.proofs.records.good_queued.Statement.{statement}
@@ -23,11 +25,12 @@ fifo-requires c κs = search needs
 
 -- src/records.rt:157:9
 returns-2 : tie.Need-returns-2
-returns-2 c = rw (sym (c .before .before .before .good-pointers .ensures) ∙ not-false _ (c .before .before .if1 .left), sym (c .before .fifo .ensures) ∙ not-true _ (c .if2 .taken))
+returns-2 c = simp (sym (c .before .fifo .ensures) ∙ not-true _ (c .if2 .taken), and-false)
 
 -- src/records.rt:160:9
 returns-3 : tie.Need-returns-3
-returns-3 c = rw (sym (c .before .before .before .before .before .good-pointers .ensures) ∙ not-false _ (c .before .before .before .before .if1 .left), sym (c .before .before .before .fifo .ensures) ∙ not-false _ (c .before .before .if2 .left), le-ltb _ _ (c .if3 .taken))
+returns-3 c =
+    simp (le-ltb (c .before .before .before .before .before .before .before .args .r .prio) 0xFF (omega arith), and-false)
 
 -- src/records.rt:162:5
 present-at-requires : tie.Need-present-at-requires
@@ -35,7 +38,13 @@ present-at-requires c κs = search needs
 
 -- src/records.rt:150:1
 returns-4 : tie.Need-returns-4
-returns-4 c = rw (sym (c .before .before .before .before .before .before .good-pointers .ensures) ∙ not-false _ (c .before .before .before .before .before .if1 .left), sym (c .before .before .before .before .fifo .ensures) ∙ not-false _ (c .before .before .before .if2 .left), lt-ltb _ _ (c .before .if3 .left)) (c .present-at .ensures)
+returns-4 c =
+    rw (
+      sym (c .before .before .before .before .before .before .good-pointers .ensures) ∙ not-false _
+          (c .before .before .before .before .before .if1 .left),
+      sym (c .before .before .before .before .fifo .ensures) ∙ not-false _ (c .before .before .before .if2 .left),
+      lt-ltb (c .before .before .before .before .before .before .before .before .args .r .prio) 0xFF (omega arith),
+    ) (c .present-at .ensures)
 
 pub good-queued-spec : {M : Type 1} → statement M
 good-queued-spec =

@@ -1,4 +1,4 @@
-use mathlib.Core.Path.{_≡_, sym, ap, _∙_}
+use mathlib.Core.Path.{sym, _∙_}
 use borrow.Author.Needs.{needs}
 use Rattle.rules.proofs.records.good_task.Statement.{statement}
 use Rattle.rules.proofs.records.good_task.Tie as tie
@@ -25,5 +25,3 @@ returns-2 c = rw (sym (c .before .before .zero-task .ensures) ∙ c .before .if1
 
 pub good-task-spec : {M : Type 1} → statement M
 good-task-spec = tie.close (tie.spec zero-task-requires returns good-head-requires returns-2)
-
--- x

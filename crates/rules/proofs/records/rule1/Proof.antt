@@ -1,3 +1,4 @@
+use mathlib.Core.Bool.{and-false}
 use denote.Ref.{now}
 use borrow.Author.Tests.{eq-eqb, ne-eqb}
 use Rattle.rules.proofs.Tests.{zeros-read}
@@ -22,7 +23,14 @@ byte-requires-2 c κs = search needs
 
 -- src/records.rt:27:9
 returns-2 : tie.Need-returns-2
-returns-2 c = rw (zeros-read (now (c .before .before .before .before .before .args .b)), ← c .before .before .before .byte .ensures, ← c .before .byte2 .ensures, eq-eqb _ _ (c .before .before .if1 .left), ne-eqb _ _ (c .if2 .taken))
+returns-2 c =
+    simp (
+      zeros-read (now (c .before .before .before .before .before .args .b)),
+      ← c .before .byte2 .ensures,
+      ne-eqb _ _
+          (c .if2 .taken),
+      and-false,
+    )
 
 -- src/records.rt:29:5
 byte-requires-3 : tie.Need-byte-requires-3
@@ -30,7 +38,15 @@ byte-requires-3 c κs = search needs
 
 -- src/records.rt:20:1
 returns-3 : tie.Need-returns-3
-returns-3 c = rw (zeros-read (now (c .before .before .before .before .before .before .args .b)), ← c .before .before .before .before .byte .ensures, ← c .before .before .byte2 .ensures, ← c .byte3 .ensures, eq-eqb _ _ (c .before .before .before .if1 .left), eq-eqb _ _ (c .before .if2 .left))
+returns-3 c =
+    rw (
+      zeros-read (now (c .before .before .before .before .before .before .args .b)),
+      ← c .before .before .before .before .byte .ensures,
+      ← c .before .before .byte2 .ensures,
+      ← c .byte3 .ensures,
+      eq-eqb _ _ (c .before .before .before .if1 .left),
+      eq-eqb _ _ (c .before .if2 .left),
+    )
 
 pub rule1-spec : {M : Type 1} → statement M
 rule1-spec =

@@ -1,12 +1,12 @@
-use borrow.Author.Needs.{needs}
-use mathlib.Core.Path.{_≡_, refl, ap, ap₂, _∙_}
+use mathlib.Core.Path.{_≡_, refl, ap₂, _∙_}
 use mathlib.Core.Bool.{true}
-use Prim.Native.Nat.{_+_, _-_, _≤_}
+use Prim.Native.Nat.{_-_, _≤_}
 use native.Mathlib.Omega.{arith}
 use denote.Ref.{now}
-use Rattle.paper.specs.Rules.{present, goodMessage, rule4At}
+use borrow.Author.Needs.{needs}
 use Rattle.links.specs.Queue.{each}
 use Rattle.board.specs.Board.{boardOf}
+use Rattle.paper.specs.Rules.{present, goodMessage, rule4At}
 use Rattle.rules.proofs.Turns.{each-next, each-fails, each-done}
 use Rattle.rules.proofs.records.rule4.Statement.{statement}
 use Rattle.rules.proofs.records.rule4.Tie as tie
@@ -44,7 +44,15 @@ good-message-requires c κs = search needs
 
 -- src/records.rt:186:13
 returns : tie.Need-returns Inv-loop μ-loop
-returns c = each-fails (rule4At (c .before .before .before .before .before .before .before .args .z) (boardOf (c .before .before .before .before .before .before .before .args .z) (now (c .before .before .before .before .before .before .before .args .b)))) (c .before .before .before .before .before .before .before .args .z .messages) (c .before .before .before .before .before .loop .m) _ (omega arith) (c .before .good-message .ensures ∙ ap₂ (goodMessage (c .before .before .before .before .before .before .before .args .z) (present (boardOf (c .before .before .before .before .before .before .before .args .z) (now (c .before .before .before .before .before .before .before .args .b))))) (c .before .before .before .message-meant .ensures) (c .before .before .place-meant .ensures)) (c .if1 .taken)
+returns c =
+    let l = c .before .before .before .before .before .loop in
+    let a = c .before .before .before .before .before .before .before .args in
+    let f = rule4At (a .z) (boardOf (a .z) (now (a .b))) in
+    each-fails f (a .z .messages) (l .m) _ (c .before .before .before .before .loop-test .taken)
+    (c .before .good-message .ensures
+    ∙ ap₂ (goodMessage (a .z) (present (boardOf (a .z) (now (a .b))))) (c .before .before .before .message-meant .ensures)
+    (c .before .before .place-meant .ensures))
+    (c .if1 .taken)
 
 -- src/records.rt:181:5
 loop-less : tie.Need-loop-less Inv-loop μ-loop
@@ -52,11 +60,25 @@ loop-less c = omega arith
 
 -- src/records.rt:181:5
 loop-again : tie.Need-loop-again Inv-loop μ-loop
-loop-again c = (omega arith, c .before .before .before .before .before .loop .inv .1, each-next (rule4At (c .before .before .before .before .before .before .before .args .z) (boardOf (c .before .before .before .before .before .before .before .args .z) (now (c .before .before .before .before .before .before .before .args .b)))) (c .before .before .before .before .before .loop .m) _ (c .before .good-message .ensures ∙ ap₂ (goodMessage (c .before .before .before .before .before .before .before .args .z) (present (boardOf (c .before .before .before .before .before .before .before .args .z) (now (c .before .before .before .before .before .before .before .args .b))))) (c .before .before .before .message-meant .ensures) (c .before .before .place-meant .ensures)) (c .if1 .left) (c .before .before .before .before .before .loop .inv .2))
+loop-again c =
+    let l = c .before .before .before .before .before .loop in
+    let a = c .before .before .before .before .before .before .before .args in
+    let f = rule4At (a .z) (boardOf (a .z) (now (a .b))) in (
+      omega arith,
+      refl,
+      each-next f (l .m) _ (c .before .good-message .ensures
+          ∙ ap₂ (goodMessage (a .z) (present (boardOf (a .z) (now (a .b))))) (c .before .before .before .message-meant .ensures)
+          (c .before .before .place-meant .ensures))
+          (c .if1 .left) (l .inv .2),
+    )
 
 -- src/records.rt:176:1
 returns-2 : tie.Need-returns-2 Inv-loop μ-loop
-returns-2 c = each-done (rule4At (c .before .before .before .args .z) (boardOf (c .before .before .before .args .z) (now (c .before .before .before .args .b)))) (c .before .before .before .args .z .messages) (c .before .loop .m) (omega arith) (c .before .loop .inv .2)
+returns-2 c =
+    let l = c .before .loop in
+    let a = c .before .before .before .args in
+    let f = rule4At (a .z) (boardOf (a .z) (now (a .b))) in
+    each-done f (a .z .messages) (l .m) (omega arith) (l .inv .2)
 
 pub rule4-spec : {M : Type 1} → statement M
 rule4-spec =

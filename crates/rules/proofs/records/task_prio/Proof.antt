@@ -1,4 +1,5 @@
-use mathlib.Core.Path.{_≡_, sym, ap, _∙_}
+use mathlib.Core.Path.{refl, sym, _∙_}
+use native.Mathlib.Omega.{arith}
 use borrow.Author.Tests.{not-true, not-false, le-leb, lt-leb}
 use borrow.Author.Needs.{needs}
 use Rattle.rules.proofs.records.task_prio.Statement.{statement}
@@ -17,11 +18,21 @@ returns c = rw (sym (c .before .fifo .ensures) ∙ not-true _ (c .if1 .taken))
 
 -- src/records.rt:62:9
 returns-2 : tie.Need-returns-2
-returns-2 c = rw (sym (c .before .before .fifo .ensures) ∙ not-false _ (c .before .if1 .left), lt-leb _ _ (c .if2 .taken))
+returns-2 c =
+    rw (
+      sym (c .before .before .fifo .ensures) ∙ not-false _ (c .before .if1 .left),
+      lt-leb 0x03
+          (c .before .before .before .args .p) (omega arith),
+    )
 
 -- src/records.rt:55:1
 returns-3 : tie.Need-returns-3
-returns-3 c = rw (sym (c .before .before .fifo .ensures) ∙ not-false _ (c .before .if1 .left), le-leb _ _ (c .if2 .left))
+returns-3 c =
+    rw (
+      sym (c .before .before .fifo .ensures) ∙ not-false _ (c .before .if1 .left),
+      le-leb 0x03
+          (c .before .before .before .args .p) (omega arith),
+    ) refl
 
 pub task-prio-spec : {M : Type 1} → statement M
 task-prio-spec = tie.close (tie.spec fifo-requires returns returns-2 returns-3)

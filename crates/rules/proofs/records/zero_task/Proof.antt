@@ -1,3 +1,4 @@
+use mathlib.Core.Bool.{and-false}
 use borrow.Author.Tests.{eq-eqb, ne-eqb}
 use borrow.Author.Needs.{needs}
 use Rattle.rules.proofs.records.zero_task.Statement.{statement}
@@ -12,27 +13,35 @@ byte-requires c κs = search needs
 
 -- src/records.rt:37:9
 returns : tie.Need-returns
-returns c = rw (← c .before .byte .ensures, ne-eqb _ _ (c .if1 .taken))
+returns c = simp (← c .before .byte .ensures, ne-eqb _ _ (c .if1 .taken))
 
 -- src/records.rt:40:9
 returns-2 : tie.Need-returns-2
-returns-2 c = rw (← c .before .before .before .byte .ensures, eq-eqb _ _ (c .before .before .if1 .left), ne-eqb _ _ (c .if2 .taken))
+returns-2 c = simp (ne-eqb _ _ (c .if2 .taken), and-false)
 
 -- src/records.rt:43:9
 returns-3 : tie.Need-returns-3
-returns-3 c = rw (← c .before .before .before .before .before .byte .ensures, eq-eqb _ _ (c .before .before .before .before .if1 .left), eq-eqb _ _ (c .before .before .if2 .left), ne-eqb _ _ (c .if3 .taken))
+returns-3 c = simp (ne-eqb _ _ (c .if3 .taken), and-false)
 
 -- src/records.rt:46:9
 returns-4 : tie.Need-returns-4
-returns-4 c = rw (← c .before .before .before .before .before .before .before .byte .ensures, eq-eqb _ _ (c .before .before .before .before .before .before .if1 .left), eq-eqb _ _ (c .before .before .before .before .if2 .left), eq-eqb _ _ (c .before .before .if3 .left), ne-eqb _ _ (c .if4 .taken))
+returns-4 c = simp (ne-eqb _ _ (c .if4 .taken), and-false)
 
 -- src/records.rt:49:9
 returns-5 : tie.Need-returns-5
-returns-5 c = rw (← c .before .before .before .before .before .before .before .before .before .byte .ensures, eq-eqb _ _ (c .before .before .before .before .before .before .before .before .if1 .left), eq-eqb _ _ (c .before .before .before .before .before .before .if2 .left), eq-eqb _ _ (c .before .before .before .before .if3 .left), eq-eqb _ _ (c .before .before .if4 .left), ne-eqb _ _ (c .if5 .taken))
+returns-5 c = simp (ne-eqb _ _ (c .if5 .taken), and-false)
 
 -- src/records.rt:32:1
 returns-6 : tie.Need-returns-6
-returns-6 c = rw (← c .before .before .before .before .before .before .before .before .before .before .byte .ensures, eq-eqb _ _ (c .before .before .before .before .before .before .before .before .before .if1 .left), eq-eqb _ _ (c .before .before .before .before .before .before .before .if2 .left), eq-eqb _ _ (c .before .before .before .before .before .if3 .left), eq-eqb _ _ (c .before .before .before .if4 .left), eq-eqb _ _ (c .before .if5 .left))
+returns-6 c =
+    rw (
+      ← c .before .before .before .before .before .before .before .before .before .before .byte .ensures,
+      eq-eqb _ _ (c .before .before .before .before .before .before .before .before .before .if1 .left),
+      eq-eqb _ _ (c .before .before .before .before .before .before .before .if2 .left),
+      eq-eqb _ _ (c .before .before .before .before .before .if3 .left),
+      eq-eqb _ _ (c .before .before .before .if4 .left),
+      eq-eqb _ _ (c .before .if5 .left),
+    )
 
 pub zero-task-spec : {M : Type 1} → statement M
 zero-task-spec =

@@ -1,13 +1,12 @@
-use borrow.Author.Needs.{needs}
 use mathlib.Core.Path.{_≡_, refl, sym, ap, _∙_}
-use Prim.Native.Nat.{_+_, _-_, _≤_}
+use Prim.Native.Nat.{_-_, _≤_}
 use native.Mathlib.Omega.{arith}
 use denote.Ref.{now}
-use Rattle.rules.proofs.Turns.{count-starts, count-yes, count-no}
-use Rattle.rules.proofs.Counting.{counted-bound}
-use Rattle.rules.specs.Walks.{counted}
+use borrow.Author.Needs.{needs}
 use Rattle.board.specs.Board.{boardOf}
 use Rattle.paper.specs.Rules.{isThere, present}
+use Rattle.rules.specs.Walks.{counted}
+use Rattle.rules.proofs.Turns.{count-starts, count-yes, count-no, count-bound}
 use Rattle.rules.proofs.walks.count_present.Statement.{statement}
 use Rattle.rules.proofs.walks.count_present.Tie as tie
 use Rattle.rules.proofs.walks.count_present.Reads as reads
@@ -23,7 +22,9 @@ abbrev μ-loop : tie.MeasureT-loop
 
 -- src/walks.rt:76:5
 loop-holds : tie.Need-loop-holds Inv-loop μ-loop
-loop-holds c = (omega arith, refl, count-starts (present (boardOf (c .before .args .z) (now (c .before .args .b)))))
+loop-holds c =
+    let a = c .before .args in
+    (omega arith, refl, count-starts (present (boardOf (a .z) (now (a .b)))))
 
 -- src/walks.rt:77:9
 add-k : tie.Need-add-k Inv-loop μ-loop
@@ -39,7 +40,7 @@ present-requires c κs = search needs
 
 -- src/walks.rt:80:13
 add-n : tie.Need-add-n Inv-loop μ-loop
-add-n c = omega (arith, counted-bound (present (boardOf (c .before .before .before .before .before .before .args .z) (now (c .before .before .before .before .before .before .args .b)))) (c .before .before .before .before .loop .k))
+add-n c = omega (arith, count-bound _ _ _ (c .before .before .before .before .loop .inv .2))
 
 -- src/walks.rt:76:5
 loop-less : tie.Need-loop-less Inv-loop μ-loop
@@ -47,7 +48,12 @@ loop-less c = omega arith
 
 -- src/walks.rt:76:5
 loop-again : tie.Need-loop-again Inv-loop μ-loop
-loop-again c = (omega arith, c .before .before .before .before .loop .inv .1, count-yes (present (boardOf (c .before .before .before .before .before .before .args .z) (now (c .before .before .before .before .before .before .args .b)))) (c .before .before .before .before .loop .k) (c .before .before .before .before .loop .n) (sym (c .before .present .ensures ∙ ap isThere (c .before .before .task-meant .ensures)) ∙ c .if1 .taken) (c .before .before .before .before .loop .inv .2))
+loop-again c = (
+  omega arith,
+  refl,
+  count-yes _ _ _ (c .before .before .before .before .loop .inv .2)
+      (sym (c .before .present .ensures ∙ ap isThere (c .before .before .task-meant .ensures)) ∙ c .if1 .taken),
+)
 
 -- src/walks.rt:76:5
 loop-less-2 : tie.Need-loop-less-2 Inv-loop μ-loop
@@ -55,11 +61,20 @@ loop-less-2 c = omega arith
 
 -- src/walks.rt:76:5
 loop-again-2 : tie.Need-loop-again-2 Inv-loop μ-loop
-loop-again-2 c = (omega arith, c .before .before .before .before .loop .inv .1, count-no (present (boardOf (c .before .before .before .before .before .before .args .z) (now (c .before .before .before .before .before .before .args .b)))) (c .before .before .before .before .loop .k) (c .before .before .before .before .loop .n) (sym (c .before .present .ensures ∙ ap isThere (c .before .before .task-meant .ensures)) ∙ c .if1 .left) (c .before .before .before .before .loop .inv .2))
+loop-again-2 c = (
+  omega arith,
+  refl,
+  count-no _ _ _ (c .before .before .before .before .loop .inv .2)
+      (sym (c .before .present .ensures ∙ ap isThere (c .before .before .task-meant .ensures)) ∙ c .if1 .left),
+)
 
 -- src/walks.rt:70:1
 returns : tie.Need-returns Inv-loop μ-loop
-returns c = c .before .loop .inv .2 ∙ ap (counted (present (boardOf (c .before .before .before .args .z) (now (c .before .before .before .args .b))))) (omega arith)
+returns c =
+    let l = c .before .loop in
+    let a = c .before .before .before .args in
+    let b = boardOf (a .z) (now (a .b)) in
+    l .inv .2 ∙ ap (counted (present b)) (omega arith)
 
 pub count-present-spec : {M : Type 1} → statement M
 count-present-spec =

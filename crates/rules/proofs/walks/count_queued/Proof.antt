@@ -1,12 +1,11 @@
-use borrow.Author.Needs.{needs}
 use mathlib.Core.Path.{_≡_, refl, sym, ap, _∙_}
-use Prim.Native.Nat.{_+_, _-_, _≤_}
+use Prim.Native.Nat.{_-_, _≤_}
 use native.Mathlib.Omega.{arith}
 use denote.Ref.{now}
-use Rattle.rules.proofs.Turns.{count-starts, count-yes, count-no}
-use Rattle.rules.proofs.Counting.{counted-bound}
-use Rattle.rules.specs.Walks.{isQueued, queued, counted}
+use borrow.Author.Needs.{needs}
 use Rattle.board.specs.Board.{boardOf}
+use Rattle.rules.specs.Walks.{isQueued, queued, counted}
+use Rattle.rules.proofs.Turns.{count-starts, count-yes, count-no, count-bound}
 use Rattle.rules.proofs.Tests.{not-queued}
 use Rattle.rules.proofs.walks.count_queued.Statement.{statement}
 use Rattle.rules.proofs.walks.count_queued.Tie as tie
@@ -22,7 +21,9 @@ abbrev μ-loop : tie.MeasureT-loop
 
 -- src/walks.rt:149:5
 loop-holds : tie.Need-loop-holds Inv-loop μ-loop
-loop-holds c = (omega arith, refl, count-starts (queued (boardOf (c .before .args .z) (now (c .before .args .b)))))
+loop-holds c =
+    let a = c .before .args in
+    (omega arith, refl, count-starts (queued (boardOf (a .z) (now (a .b)))))
 
 -- src/walks.rt:150:9
 add-m : tie.Need-add-m Inv-loop μ-loop
@@ -38,7 +39,7 @@ enum-told c = search needs
 
 -- src/walks.rt:153:13
 add-n : tie.Need-add-n Inv-loop μ-loop
-add-n c = omega (arith, counted-bound (queued (boardOf (c .before .before .before .before .before .before .args .z) (now (c .before .before .before .before .before .before .args .b)))) (c .before .before .before .before .loop .m))
+add-n c = omega (arith, count-bound _ _ _ (c .before .before .before .before .loop .inv .2))
 
 -- src/walks.rt:149:5
 loop-less : tie.Need-loop-less Inv-loop μ-loop
@@ -46,7 +47,12 @@ loop-less c = omega arith
 
 -- src/walks.rt:149:5
 loop-again : tie.Need-loop-again Inv-loop μ-loop
-loop-again c = (omega arith, c .before .before .before .before .loop .inv .1, count-yes (queued (boardOf (c .before .before .before .before .before .before .args .z) (now (c .before .before .before .before .before .before .args .b)))) (c .before .before .before .before .loop .m) (c .before .before .before .before .loop .n) (ap isQueued (sym (c .before .before .place-meant .ensures) ∙ c .enum-told .given .1)) (c .before .before .before .before .loop .inv .2))
+loop-again c = (
+  omega arith,
+  refl,
+  count-yes _ _ _ (c .before .before .before .before .loop .inv .2)
+      (ap isQueued (sym (c .before .before .place-meant .ensures) ∙ c .enum-told .given .1)),
+)
 
 -- src/walks.rt:149:5
 loop-less-2 : tie.Need-loop-less-2 Inv-loop μ-loop
@@ -54,11 +60,20 @@ loop-less-2 c = omega arith
 
 -- src/walks.rt:149:5
 loop-again-2 : tie.Need-loop-again-2 Inv-loop μ-loop
-loop-again-2 c = (omega arith, c .before .before .before .loop .inv .1, count-no (queued (boardOf (c .before .before .before .before .before .args .z) (now (c .before .before .before .before .before .args .b)))) (c .before .before .before .loop .m) (c .before .before .before .loop .n) (not-queued _ (c .before .place-meant .result) (c .before .place-meant .ensures) (c .match .keys2)) (c .before .before .before .loop .inv .2))
+loop-again-2 c = (
+  omega arith,
+  refl,
+  count-no _ _ _ (c .before .before .before .loop .inv .2)
+      (not-queued _ (c .before .place-meant .result) (c .before .place-meant .ensures) (c .match .keys2)),
+)
 
 -- src/walks.rt:143:1
 returns : tie.Need-returns Inv-loop μ-loop
-returns c = c .before .loop .inv .2 ∙ ap (counted (queued (boardOf (c .before .before .before .args .z) (now (c .before .before .before .args .b))))) (omega arith)
+returns c =
+    let l = c .before .loop in
+    let a = c .before .before .before .args in
+    let b = boardOf (a .z) (now (a .b)) in
+    l .inv .2 ∙ ap (counted (queued b)) (omega arith)
 
 pub count-queued-spec : {M : Type 1} → statement M
 count-queued-spec =

@@ -1,4 +1,5 @@
-use mathlib.Core.Path.{_≡_, sym, ap, _∙_}
+use mathlib.Core.Path.{ap, _∙_}
+use native.Mathlib.Omega.{arith}
 use denote.Ref.{now}
 use Rattle.board.specs.declared.records.Message.{Message}
 use Rattle.board.specs.Status.{number}
@@ -6,7 +7,7 @@ use Rattle.board.specs.Board.{boardOf}
 use Rattle.paper.specs.Rules.{nextMessage, messageNumber}
 use Rattle.rules.specs.Walks.{queuedAt}
 use Rattle.rules.proofs.Tests.{queued-nowhere, queued-there, queued-elsewhere}
-use Rattle.rules.proofs.Turns.{turn-stray, turn-falls, turn-on}
+use Rattle.rules.proofs.Turns.{turn-strays, turn-falls, turn-goes-on}
 use borrow.Author.Needs.{needs}
 use Rattle.rules.proofs.walks.message_turn.Statement.{statement}
 use Rattle.rules.proofs.walks.message_turn.Tie as tie
@@ -27,7 +28,12 @@ enum-known-p c = search needs
 
 -- src/walks.rt:101:9
 returns : tie.Need-returns
-returns c = turn-stray (nextMessage (boardOf (c .before .before .before .args .z) (now (c .before .before .before .args .b)))) (messageNumber (boardOf (c .before .before .before .args .z) (now (c .before .before .before .args .b)))) (queuedAt (boardOf (c .before .before .before .args .z) (now (c .before .before .before .args .b))) (c .before .before .before .args .k)) (c .before .before .before .args .m) (c .before .before .before .args .low) (queued-nowhere _ (c .before .place-meant .result) (c .before .place-meant .ensures) (c .before .before .before .args .k) (c .match .keys2))
+returns c =
+    let a = c .before .before .before .args in
+    let b = boardOf (a .z) (now (a .b)) in
+    let p = c .before .place-meant in
+    turn-strays (nextMessage b) (messageNumber b) (queuedAt b (a .k)) (a .m) (a .low)
+    (queued-nowhere _ (p .result) (p .ensures) (a .k) (c .match .keys2))
 
 -- src/walks.rt:103:8
 number-requires : tie.Need-number-requires
@@ -35,7 +41,13 @@ number-requires c κs = search needs
 
 -- src/walks.rt:104:9
 returns-2 : tie.Need-returns-2
-returns-2 c = turn-stray (nextMessage (boardOf (c .before .before .before .before .before .before .before .args .z) (now (c .before .before .before .before .before .before .before .args .b)))) (messageNumber (boardOf (c .before .before .before .before .before .before .before .args .z) (now (c .before .before .before .before .before .before .before .args .b)))) (queuedAt (boardOf (c .before .before .before .before .before .before .before .args .z) (now (c .before .before .before .before .before .before .before .args .b))) (c .before .before .before .before .before .before .before .args .k)) (c .before .before .before .before .before .before .before .args .m) (c .before .before .before .before .before .before .before .args .low) (queued-elsewhere _ (c .before .before .before .before .before .place-meant .result) (c .before .before .before .before .before .place-meant .ensures) (c .before .before .before .before .before .before .before .args .k) _ _ (c .before .before .before .p .given .1) (c .before .number .ensures) (c .if1 .taken))
+returns-2 c =
+    let a = c .before .before .before .before .before .before .before .args in
+    let b = boardOf (a .z) (now (a .b)) in
+    let p = c .before .before .before .before .before .place-meant in
+    turn-strays (nextMessage b) (messageNumber b) (queuedAt b (a .k)) (a .m) (a .low)
+    (queued-elsewhere _ (p .result) (p .ensures) (a .k) _ _ (c .before .before .before .p .given .1) (c .before .number .ensures)
+    (c .if1 .taken))
 
 -- src/walks.rt:106:9
 message-meant-requires : tie.Need-message-meant-requires
@@ -47,11 +59,28 @@ number-requires-2 c κs = search needs
 
 -- src/walks.rt:109:9
 returns-3 : tie.Need-returns-3
-returns-3 c = turn-falls (nextMessage (boardOf (c .before .before .before .before .before .before .before .before .before .before .args .z) (now (c .before .before .before .before .before .before .before .before .before .before .args .b)))) (messageNumber (boardOf (c .before .before .before .before .before .before .before .before .before .before .args .z) (now (c .before .before .before .before .before .before .before .before .before .before .args .b)))) (queuedAt (boardOf (c .before .before .before .before .before .before .before .before .before .before .args .z) (now (c .before .before .before .before .before .before .before .before .before .before .args .b))) (c .before .before .before .before .before .before .before .before .before .before .args .k)) (c .before .before .before .before .before .before .before .before .before .before .args .m) (c .before .before .before .before .before .before .before .before .before .before .args .low) _ (queued-there _ (c .before .before .before .before .before .before .before .before .place-meant .result) (c .before .before .before .before .before .before .before .before .place-meant .ensures) (c .before .before .before .before .before .before .before .before .before .before .args .k) _ _ (c .before .before .before .before .before .before .p .given .1) (c .before .before .before .before .number .ensures) (c .before .before .before .if1 .left)) (c .before .number2 .ensures ∙ ap (λ (r : Message). number (r .prio)) (c .before .before .message-meant .ensures)) (c .if2 .taken)
+returns-3 c =
+    let a = c .before .before .before .before .before .before .before .before .before .before .args in
+    let b = boardOf (a .z) (now (a .b)) in
+    let p = c .before .before .before .before .before .before .before .before .place-meant in
+    let e = queued-there _ (p .result) (p .ensures) (a .k) _ _ (c .before .before .before .before .before .before .p .given .1)
+    (c .before .before .before .before .number .ensures) (c .before .before .before .if1 .left) in
+    let t = c .before .before .message-meant in
+    turn-falls (nextMessage b) (messageNumber b) (queuedAt b (a .k)) (a .m) (a .low) _ e
+    (c .before .number2 .ensures ∙ ap (λ (r : Message). number (r .prio)) (t .ensures)) (omega arith)
 
 -- src/walks.rt:96:1
 returns-4 : tie.Need-returns-4
-returns-4 c = turn-on (nextMessage (boardOf (c .before .before .before .before .before .before .before .before .before .before .args .z) (now (c .before .before .before .before .before .before .before .before .before .before .args .b)))) (messageNumber (boardOf (c .before .before .before .before .before .before .before .before .before .before .args .z) (now (c .before .before .before .before .before .before .before .before .before .before .args .b)))) (queuedAt (boardOf (c .before .before .before .before .before .before .before .before .before .before .args .z) (now (c .before .before .before .before .before .before .before .before .before .before .args .b))) (c .before .before .before .before .before .before .before .before .before .before .args .k)) (c .before .before .before .before .before .before .before .before .before .before .args .m) (c .before .before .before .before .before .before .before .before .before .before .args .low) _ _ (queued-there _ (c .before .before .before .before .before .before .before .before .place-meant .result) (c .before .before .before .before .before .before .before .before .place-meant .ensures) (c .before .before .before .before .before .before .before .before .before .before .args .k) _ _ (c .before .before .before .before .before .before .p .given .1) (c .before .before .before .before .number .ensures) (c .before .before .before .if1 .left)) (ap (λ (r : Message). r .link) (c .before .before .message-meant .ensures)) (c .before .number2 .ensures ∙ ap (λ (r : Message). number (r .prio)) (c .before .before .message-meant .ensures)) (c .if2 .left)
+returns-4 c =
+    let a = c .before .before .before .before .before .before .before .before .before .before .args in
+    let b = boardOf (a .z) (now (a .b)) in
+    let p = c .before .before .before .before .before .before .before .before .place-meant in
+    let e = queued-there _ (p .result) (p .ensures) (a .k) _ _ (c .before .before .before .before .before .before .p .given .1)
+    (c .before .before .before .before .number .ensures) (c .before .before .before .if1 .left) in
+    let t = c .before .before .message-meant in
+    turn-goes-on (nextMessage b) (messageNumber b) (queuedAt b (a .k)) (a .m) (a .low) _ _ e
+    (ap (λ (r : Message). r .link) (t .ensures))
+    (c .before .number2 .ensures ∙ ap (λ (r : Message). number (r .prio)) (t .ensures)) (omega arith)
 
 pub message-turn-spec : {M : Type 1} → statement M
 message-turn-spec =

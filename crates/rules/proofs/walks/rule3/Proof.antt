@@ -2,10 +2,10 @@ use mathlib.Core.Path.{sym, ap, ap₂, _∙_}
 use denote.Ref.{now}
 use Rattle.board.specs.Board.{boardOf}
 use Rattle.board.proofs.Codec.{length-tasks}
-use Rattle.rules.proofs.Lists.{saw, rule3-is}
-use Rattle.rules.specs.declared.walks.Walked.{Walked}
 use Rattle.paper.specs.Rules.{present}
+use Rattle.rules.specs.declared.walks.Walked.{Walked}
 use Rattle.rules.specs.Walks.{counted}
+use Rattle.rules.proofs.Lists.{saw, rule3-is}
 use borrow.Author.Needs.{needs}
 use Rattle.rules.proofs.walks.rule3.Statement.{statement}
 use Rattle.rules.proofs.walks.rule3.Tie as tie
@@ -28,7 +28,12 @@ enum-told c = search needs
 
 -- src/walks.rt:91:9
 returns : tie.Need-returns
-returns c = ap (λ (w : Walked). saw w (counted (present (boardOf (c .before .before .before .before .args .z) (now (c .before .before .before .before .args .b)))) (c .before .before .before .before .args .z .tasks))) (sym (c .enum-told .given .1) ∙ c .before .before .walk-tasks .ensures) ∙ rule3-is (c .before .before .before .before .args .z) (boardOf (c .before .before .before .before .args .z) (now (c .before .before .before .before .args .b))) (length-tasks (c .before .before .before .before .args .z) (now (c .before .before .before .before .args .b)))
+returns c =
+    let a = c .before .before .before .before .args in
+    let b = boardOf (a .z) (now (a .b)) in
+    ap (λ (w : Walked). saw w (counted (present b) (a .z .tasks)))
+    (sym (c .enum-told .given .1) ∙ c .before .before .walk-tasks .ensures)
+    ∙ rule3-is (a .z) b (length-tasks (a .z) (now (a .b)))
 
 -- src/walks.rt:93:10
 count-present-requires : tie.Need-count-present-requires
@@ -40,7 +45,12 @@ cast-result c = search needs
 
 -- src/walks.rt:86:1
 returns-2 : tie.Need-returns-2
-returns-2 c = ap₂ saw (sym (c .before .before .walked .given .1) ∙ c .before .before .before .before .walk-tasks .ensures) (c .count-present .ensures) ∙ rule3-is (c .before .before .before .before .before .before .args .z) (boardOf (c .before .before .before .before .before .before .args .z) (now (c .before .before .before .before .before .before .args .b))) (length-tasks (c .before .before .before .before .before .before .args .z) (now (c .before .before .before .before .before .before .args .b)))
+returns-2 c =
+    let a = c .before .before .before .before .before .before .args in
+    let b = boardOf (a .z) (now (a .b)) in
+    ap₂ saw (sym (c .before .before .walked .given .1) ∙ c .before .before .before .before .walk-tasks .ensures)
+    (c .count-present .ensures)
+    ∙ rule3-is (a .z) b (length-tasks (a .z) (now (a .b)))
 
 pub rule3-spec : {M : Type 1} → statement M
 rule3-spec =

@@ -1,11 +1,12 @@
-use mathlib.Core.Path.{_≡_, sym, ap, _∙_}
+use mathlib.Core.Path.{sym, ap, _∙_}
+use native.Mathlib.Omega.{arith}
 use denote.Ref.{now}
 use borrow.Author.Tests.{not-true, not-false}
 use Rattle.board.specs.declared.records.Task.{Task}
 use Rattle.board.specs.Status.{number}
 use Rattle.board.specs.Board.{boardOf}
 use Rattle.paper.specs.Rules.{isThere, present, nextTask, taskNumber}
-use Rattle.rules.proofs.Turns.{turn-stray, turn-falls, turn-on}
+use Rattle.rules.proofs.Turns.{turn-strays, turn-falls, turn-goes-on}
 use borrow.Author.Needs.{needs}
 use Rattle.rules.proofs.walks.task_turn.Statement.{statement}
 use Rattle.rules.proofs.walks.task_turn.Tie as tie
@@ -25,7 +26,12 @@ present-requires c κs = search needs
 
 -- src/walks.rt:33:9
 returns : tie.Need-returns
-returns c = turn-stray (nextTask (boardOf (c .before .before .before .before .args .z) (now (c .before .before .before .before .args .b)))) (taskNumber (boardOf (c .before .before .before .before .args .z) (now (c .before .before .before .before .args .b)))) (present (boardOf (c .before .before .before .before .args .z) (now (c .before .before .before .before .args .b)))) (c .before .before .before .before .args .k) (c .before .before .before .before .args .low) (sym (c .before .present .ensures ∙ ap isThere (c .before .before .task-meant .ensures)) ∙ not-true _ (c .if1 .taken))
+returns c =
+    let a = c .before .before .before .before .args in
+    let b = boardOf (a .z) (now (a .b)) in
+    let t = c .before .before .task-meant in
+    turn-strays (nextTask b) (taskNumber b) (present b) (a .k) (a .low)
+    (sym (c .before .present .ensures ∙ ap isThere (t .ensures)) ∙ not-true _ (c .if1 .taken))
 
 -- src/walks.rt:35:9
 number-requires : tie.Need-number-requires
@@ -33,11 +39,25 @@ number-requires c κs = search needs
 
 -- src/walks.rt:37:9
 returns-2 : tie.Need-returns-2
-returns-2 c = turn-falls (nextTask (boardOf (c .before .before .before .before .before .before .args .z) (now (c .before .before .before .before .before .before .args .b)))) (taskNumber (boardOf (c .before .before .before .before .before .before .args .z) (now (c .before .before .before .before .before .before .args .b)))) (present (boardOf (c .before .before .before .before .before .before .args .z) (now (c .before .before .before .before .before .before .args .b)))) (c .before .before .before .before .before .before .args .k) (c .before .before .before .before .before .before .args .low) _ (sym (c .before .before .before .present .ensures ∙ ap isThere (c .before .before .before .before .task-meant .ensures)) ∙ not-false _ (c .before .before .if1 .left)) (c .before .number .ensures ∙ ap (λ (t : Task). number (t .prio)) (c .before .before .before .before .task-meant .ensures)) (c .if2 .taken)
+returns-2 c =
+    let a = c .before .before .before .before .before .before .args in
+    let b = boardOf (a .z) (now (a .b)) in
+    let t = c .before .before .before .before .task-meant in
+    let e = sym (c .before .before .before .present .ensures ∙ ap isThere (t .ensures)) ∙ not-false _
+    (c .before .before .if1 .left) in
+    turn-falls (nextTask b) (taskNumber b) (present b) (a .k) (a .low) _ e
+    (c .before .number .ensures ∙ ap (λ (r : Task). number (r .prio)) (t .ensures)) (omega arith)
 
 -- src/walks.rt:28:1
 returns-3 : tie.Need-returns-3
-returns-3 c = turn-on (nextTask (boardOf (c .before .before .before .before .before .before .args .z) (now (c .before .before .before .before .before .before .args .b)))) (taskNumber (boardOf (c .before .before .before .before .before .before .args .z) (now (c .before .before .before .before .before .before .args .b)))) (present (boardOf (c .before .before .before .before .before .before .args .z) (now (c .before .before .before .before .before .before .args .b)))) (c .before .before .before .before .before .before .args .k) (c .before .before .before .before .before .before .args .low) _ _ (sym (c .before .before .before .present .ensures ∙ ap isThere (c .before .before .before .before .task-meant .ensures)) ∙ not-false _ (c .before .before .if1 .left)) (ap (λ (t : Task). t .link) (c .before .before .before .before .task-meant .ensures)) (c .before .number .ensures ∙ ap (λ (t : Task). number (t .prio)) (c .before .before .before .before .task-meant .ensures)) (c .if2 .left)
+returns-3 c =
+    let a = c .before .before .before .before .before .before .args in
+    let b = boardOf (a .z) (now (a .b)) in
+    let t = c .before .before .before .before .task-meant in
+    let e = sym (c .before .before .before .present .ensures ∙ ap isThere (t .ensures)) ∙ not-false _
+    (c .before .before .if1 .left) in
+    turn-goes-on (nextTask b) (taskNumber b) (present b) (a .k) (a .low) _ _ e (ap (λ (r : Task). r .link) (t .ensures))
+    (c .before .number .ensures ∙ ap (λ (r : Task). number (r .prio)) (t .ensures)) (omega arith)
 
 pub task-turn-spec : {M : Type 1} → statement M
 task-turn-spec =

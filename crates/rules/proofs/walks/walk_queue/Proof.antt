@@ -1,13 +1,13 @@
-use borrow.Author.Needs.{needs}
 use mathlib.Core.Path.{_≡_, refl, sym, ap, _∙_}
-use Prim.Native.Nat.{ℕ, _+_, _-_, _≤_}
+use Prim.Native.Nat.{_-_, _≤_}
 use native.Mathlib.Omega.{arith}
 use denote.Ref.{now}
-use Rattle.rules.proofs.Turns.{walk-starts, walk-ends, walk-strays, walk-goes-on, walk-gives-up}
+use borrow.Author.Needs.{needs}
 use Rattle.board.specs.declared.records.Task.{Task}
 use Rattle.board.specs.Board.{boardOf, task}
 use Rattle.paper.specs.Rules.{nextMessage, messageNumber}
 use Rattle.rules.specs.Walks.{visited, queuedAt}
+use Rattle.rules.proofs.Turns.{walk-starts, walk-ends, walk-strays, walk-goes-on, walk-gives-up}
 use Rattle.rules.proofs.walks.walk_queue.Statement.{statement}
 use Rattle.rules.proofs.walks.walk_queue.Tie as tie
 use Rattle.rules.proofs.walks.walk_queue.Reads as reads
@@ -16,7 +16,11 @@ use Rattle.board.proofs.words.task_meant.Reads as task-meant-reads
 use Rattle.rules.proofs.walks.message_turn.Reads as message-turn-reads
 
 abbrev Inv-loop : tie.InvT-loop
-Inv-loop z b k most link₀ low₀ seen₀ link low seen = (seen ≤ most) × (most ≡ z .messages) × (visited (nextMessage (boardOf z b)) (messageNumber (boardOf z b)) (queuedAt (boardOf z b) k) (z .messages - seen) link low seen ≡ visited (nextMessage (boardOf z b)) (messageNumber (boardOf z b)) (queuedAt (boardOf z b) k) (z .messages) (task (boardOf z b) k .mptr) 0 0)
+Inv-loop z b k most link₀ low₀ seen₀ link low seen =
+    (seen ≤ most) × (most ≡ z .messages)
+    × (visited (nextMessage (boardOf z b)) (messageNumber (boardOf z b)) (queuedAt (boardOf z b) k) (most - seen) link low seen
+    ≡ visited (nextMessage (boardOf z b)) (messageNumber (boardOf z b)) (queuedAt (boardOf z b) k) (z .messages)
+    (task (boardOf z b) k .mptr) 0 0)
 
 abbrev μ-loop : tie.MeasureT-loop
 μ-loop z b k most link₀ low₀ seen₀ link low seen = most - seen
@@ -31,11 +35,18 @@ task-meant-requires c κs = search needs
 
 -- src/walks.rt:125:5
 loop-holds : tie.Need-loop-holds Inv-loop μ-loop
-loop-holds c = (omega arith, refl, walk-starts (nextMessage (boardOf (c .before .before .before .args .z) (now (c .before .before .before .args .b)))) (messageNumber (boardOf (c .before .before .before .args .z) (now (c .before .before .before .args .b)))) (queuedAt (boardOf (c .before .before .before .args .z) (now (c .before .before .before .args .b))) (c .before .before .before .args .k)) (c .before .before .before .args .z .messages) _ _ (ap (λ (t : Task). t .mptr) (c .task-meant .ensures)))
+loop-holds c =
+    let a = c .before .before .before .args in
+    let b = boardOf (a .z) (now (a .b)) in (
+      omega arith,
+      refl,
+      walk-starts (nextMessage b) (messageNumber b) (queuedAt b (a .k)) (a .z .messages)
+          (ap (λ (t : Task). t .mptr) (c .task-meant .ensures)),
+    )
 
 -- src/walks.rt:127:13
 returns : tie.Need-returns Inv-loop μ-loop
-returns c = walk-ends (nextMessage (boardOf (c .before .before .before .before .before .before .args .z) (now (c .before .before .before .before .before .before .args .b)))) (messageNumber (boardOf (c .before .before .before .before .before .before .args .z) (now (c .before .before .before .before .before .before .args .b)))) (queuedAt (boardOf (c .before .before .before .before .before .before .args .z) (now (c .before .before .before .before .before .before .args .b))) (c .before .before .before .before .before .before .args .k)) (c .before .before .before .before .before .before .args .z .messages) _ (c .before .before .loop .link) (c .before .before .loop .low) (c .before .before .loop .seen) (c .before .before .loop .inv .2) (c .if1 .taken)
+returns c = walk-ends _ _ _ _ _ _ _ (c .before .before .loop .inv .2) (c .if1 .taken)
 
 -- src/walks.rt:129:13
 message-turn-requires : tie.Need-message-turn-requires Inv-loop μ-loop
@@ -51,7 +62,11 @@ enum-told c = search needs
 
 -- src/walks.rt:131:13
 returns-2 : tie.Need-returns-2 Inv-loop μ-loop
-returns-2 c = walk-strays (nextMessage (boardOf (c .before .before .before .before .before .before .before .before .before .args .z) (now (c .before .before .before .before .before .before .before .before .before .args .b)))) (messageNumber (boardOf (c .before .before .before .before .before .before .before .before .before .args .z) (now (c .before .before .before .before .before .before .before .before .before .args .b)))) (queuedAt (boardOf (c .before .before .before .before .before .before .before .before .before .args .z) (now (c .before .before .before .before .before .before .before .before .before .args .b))) (c .before .before .before .before .before .before .before .before .before .args .k)) (c .before .before .before .before .before .before .before .before .before .args .z .messages) _ (c .before .before .before .before .before .loop .link) (c .before .before .before .before .before .loop .low) (c .before .before .before .before .before .loop .seen) (c .before .before .before .before .before .loop .inv .2) (omega arith) (c .before .before .before .if1 .left) (sym (c .enum-told .given .1) ∙ c .before .before .message-turn .ensures)
+returns-2 c =
+    walk-strays _ _ _ (c .before .before .before .before .before .before .before .before .before .args .z .messages) _ _
+    (c .before .before .before .before .before .loop .seen) (c .before .before .before .before .before .loop .inv .2)
+    (omega arith) (c .before .before .before .if1 .left)
+    (sym (c .enum-told .given .1) ∙ c .before .before .message-turn .ensures)
 
 -- src/walks.rt:135:9
 add-seen : tie.Need-add-seen Inv-loop μ-loop
@@ -63,15 +78,22 @@ loop-less c = omega arith
 
 -- src/walks.rt:125:5
 loop-again : tie.Need-loop-again Inv-loop μ-loop
-loop-again c = (omega arith, c .before .before .before .before .before .before .loop .inv .1, walk-goes-on (nextMessage (boardOf (c .before .before .before .before .before .before .before .before .before .before .args .z) (now (c .before .before .before .before .before .before .before .before .before .before .args .b)))) (messageNumber (boardOf (c .before .before .before .before .before .before .before .before .before .before .args .z) (now (c .before .before .before .before .before .before .before .before .before .before .args .b)))) (queuedAt (boardOf (c .before .before .before .before .before .before .before .before .before .before .args .z) (now (c .before .before .before .before .before .before .before .before .before .before .args .b))) (c .before .before .before .before .before .before .before .before .before .before .args .k)) (c .before .before .before .before .before .before .before .before .before .before .args .z .messages) _ (c .before .before .before .before .before .before .loop .link) (c .before .before .before .before .before .before .loop .low) (c .before .before .before .before .before .before .loop .seen) (c .before .before .before .before .before .before .loop .inv .2) _ _ (omega arith) (c .before .before .before .before .if1 .left) (sym (c .before .turn .given .1) ∙ c .before .before .before .message-turn .ensures))
+loop-again c = (
+  omega arith,
+  refl,
+  walk-goes-on _ _ _ (c .before .before .before .before .before .before .before .before .before .before .args .z .messages) _ _ (c .before .before .before .before .before .before .loop .seen) (c .before .before .before .before .before .before .loop .inv .2) (omega arith) (c .before .before .before .before .if1 .left)
+      (sym (c .before .turn .given .1) ∙ c .before .before .before .message-turn .ensures),
+)
 
 -- src/walks.rt:138:9
 returns-3 : tie.Need-returns-3 Inv-loop μ-loop
-returns-3 c = walk-ends (nextMessage (boardOf (c .before .before .before .before .before .before .args .z) (now (c .before .before .before .before .before .before .args .b)))) (messageNumber (boardOf (c .before .before .before .before .before .before .args .z) (now (c .before .before .before .before .before .before .args .b)))) (queuedAt (boardOf (c .before .before .before .before .before .before .args .z) (now (c .before .before .before .before .before .before .args .b))) (c .before .before .before .before .before .before .args .k)) (c .before .before .before .before .before .before .args .z .messages) _ (c .before .before .loop .link) (c .before .before .loop .low) (c .before .before .loop .seen) (c .before .before .loop .inv .2) (c .if2 .taken)
+returns-3 c = walk-ends _ _ _ _ _ _ _ (c .before .before .loop .inv .2) (c .if2 .taken)
 
 -- src/walks.rt:117:1
 returns-4 : tie.Need-returns-4 Inv-loop μ-loop
-returns-4 c = walk-gives-up (nextMessage (boardOf (c .before .before .before .before .before .before .args .z) (now (c .before .before .before .before .before .before .args .b)))) (messageNumber (boardOf (c .before .before .before .before .before .before .args .z) (now (c .before .before .before .before .before .before .args .b)))) (queuedAt (boardOf (c .before .before .before .before .before .before .args .z) (now (c .before .before .before .before .before .before .args .b))) (c .before .before .before .before .before .before .args .k)) (c .before .before .before .before .before .before .args .z .messages) _ (c .before .before .loop .link) (c .before .before .loop .low) (c .before .before .loop .seen) (c .before .before .loop .inv .2) (omega arith) (c .if2 .left)
+returns-4 c =
+    walk-gives-up _ _ _ (c .before .before .before .before .before .before .args .z .messages) _ _ (c .before .before .loop .seen)
+    (c .before .before .loop .inv .2) (omega arith) (c .if2 .left)
 
 pub walk-queue-spec : {M : Type 1} → statement M
 walk-queue-spec =

@@ -1,12 +1,12 @@
-use borrow.Author.Needs.{needs}
 use mathlib.Core.Path.{_≡_, refl, sym, ap, _∙_}
-use Prim.Native.Nat.{_+_, _-_, _*_, _≤_}
+use Prim.Native.Nat.{_-_, _*_, _≤_}
 use native.Mathlib.Omega.{arith}
 use denote.Ref.{now}
+use borrow.Author.Needs.{needs}
 use Rattle.board.specs.Board.{boardOf}
 use Rattle.rules.specs.declared.walks.Walked.the-variants.{Seen}
 use Rattle.rules.specs.Walks.{walked}
-use Rattle.rules.proofs.Turns.{walks-start, walks-on, walks-break, walks-bound, walks-fit}
+use Rattle.rules.proofs.Turns.{walks-start, walks-break, walks-on, walks-bound, walks-fit}
 use Rattle.rules.proofs.walks.walk_queues.Statement.{statement}
 use Rattle.rules.proofs.walks.walk_queues.Tie as tie
 use Rattle.rules.proofs.walks.walk_queues.Reads as reads
@@ -21,7 +21,10 @@ abbrev μ-loop : tie.MeasureT-loop
 
 -- src/walks.rt:166:5
 loop-holds : tie.Need-loop-holds Inv-loop μ-loop
-loop-holds c = (omega arith, refl, walks-start (c .before .args .z) (boardOf (c .before .args .z) (now (c .before .args .b))), omega arith)
+loop-holds c =
+    let a = c .before .args in
+    let b = boardOf (a .z) (now (a .b)) in
+    (omega arith, refl, walks-start (a .z) b, omega arith)
 
 -- src/walks.rt:167:9
 add-k : tie.Need-add-k Inv-loop μ-loop
@@ -41,11 +44,25 @@ enum-told c = search needs
 
 -- src/walks.rt:170:13
 returns : tie.Need-returns Inv-loop μ-loop
-returns c = walks-break (c .before .before .before .before .before .before .args .z) (boardOf (c .before .before .before .before .before .before .args .z) (now (c .before .before .before .before .before .before .args .b))) _ (c .before .before .before .before .loop .k) (omega arith) (sym (c .enum-told .given .1) ∙ c .before .before .walk-queue .ensures)
+returns c =
+    let l = c .before .before .before .before .loop in
+    let a = c .before .before .before .before .before .before .args in
+    let b = boardOf (a .z) (now (a .b)) in
+    walks-break (a .z) b (a .z .tasks) (l .k) (c .before .before .before .loop-test .taken)
+    (sym (c .enum-told .given .1) ∙ c .before .before .walk-queue .ensures)
 
 -- src/walks.rt:172:9
 add-sum : tie.Need-add-sum Inv-loop μ-loop
-add-sum c = omega (arith, walks-fit (c .before .before .before .before .before .before .before .args .z) (boardOf (c .before .before .before .before .before .before .before .args .z) (now (c .before .before .before .before .before .before .before .args .b))) (c .before .before .before .before .before .loop .k + 1) _ (walks-bound (c .before .before .before .before .before .before .before .args .z) (boardOf (c .before .before .before .before .before .before .before .args .z) (now (c .before .before .before .before .before .before .before .args .b))) (c .before .before .before .before .before .loop .k) (c .before .before .before .before .before .loop .sum) (c .before .one .given .0 .0) (c .before .before .before .before .before .loop .inv .3) (sym (c .before .one .given .1) ∙ c .before .before .before .walk-queue .ensures)) (omega arith) (omega arith))
+add-sum c =
+    let l = c .before .before .before .before .before .loop in
+    let a = c .before .before .before .before .before .before .before .args in
+    let b = boardOf (a .z) (now (a .b)) in
+    omega (
+      arith,
+      walks-fit (a .z) b (l .k) (l .sum) _ (sym (c .before .one .given .1) ∙ c .before .before .before .walk-queue .ensures)
+          (l .inv .3)
+          (omega arith) (omega arith),
+    )
 
 -- src/walks.rt:166:5
 loop-less : tie.Need-loop-less Inv-loop μ-loop
@@ -53,11 +70,24 @@ loop-less c = omega arith
 
 -- src/walks.rt:166:5
 loop-again : tie.Need-loop-again Inv-loop μ-loop
-loop-again c = (omega arith, c .before .before .before .before .before .loop .inv .1, walks-on (c .before .before .before .before .before .before .before .args .z) (boardOf (c .before .before .before .before .before .before .before .args .z) (now (c .before .before .before .before .before .before .before .args .b))) (c .before .before .before .before .before .loop .k) (c .before .before .before .before .before .loop .sum) _ (c .before .before .before .before .before .loop .inv .2) (sym (c .before .one .given .1) ∙ c .before .before .before .walk-queue .ensures), walks-bound (c .before .before .before .before .before .before .before .args .z) (boardOf (c .before .before .before .before .before .before .before .args .z) (now (c .before .before .before .before .before .before .before .args .b))) (c .before .before .before .before .before .loop .k) (c .before .before .before .before .before .loop .sum) _ (c .before .before .before .before .before .loop .inv .3) (sym (c .before .one .given .1) ∙ c .before .before .before .walk-queue .ensures))
+loop-again c =
+    let l = c .before .before .before .before .before .loop in
+    let a = c .before .before .before .before .before .before .before .args in
+    let b = boardOf (a .z) (now (a .b)) in
+    let e = sym (c .before .one .given .1) ∙ c .before .before .before .walk-queue .ensures in (
+      omega arith,
+      refl,
+      walks-on (a .z) b (l .k) (l .sum) _ e (l .inv .2),
+      walks-bound (a .z) b (l .k) (l .sum) _ e (l .inv .3),
+    )
 
 -- src/walks.rt:160:1
 returns-2 : tie.Need-returns-2 Inv-loop μ-loop
-returns-2 c = sym (c .before .loop .inv .2) ∙ ap (walked (c .before .before .before .args .z) (boardOf (c .before .before .before .args .z) (now (c .before .before .before .args .b)))) (omega arith)
+returns-2 c =
+    let l = c .before .loop in
+    let a = c .before .before .before .args in
+    let b = boardOf (a .z) (now (a .b)) in
+    sym (l .inv .2) ∙ ap (walked (a .z) b) (omega arith)
 
 pub walk-queues-spec : {M : Type 1} → statement M
 walk-queues-spec =

@@ -1,12 +1,12 @@
-use borrow.Author.Needs.{needs}
-use mathlib.Core.Path.{_≡_, refl, sym, ap, _∙_}
-use Prim.Native.Nat.{ℕ, _+_, _-_, _≤_}
+use mathlib.Core.Path.{_≡_, refl, sym, _∙_}
+use Prim.Native.Nat.{_-_, _≤_}
 use native.Mathlib.Omega.{arith}
 use denote.Ref.{now}
-use Rattle.rules.proofs.Turns.{walk-starts, walk-ends, walk-strays, walk-goes-on, walk-gives-up}
+use borrow.Author.Needs.{needs}
 use Rattle.board.specs.Board.{boardOf}
 use Rattle.paper.specs.Rules.{present, nextTask, taskNumber}
 use Rattle.rules.specs.Walks.{visited}
+use Rattle.rules.proofs.Turns.{walk-starts, walk-ends, walk-strays, walk-goes-on, walk-gives-up}
 use Rattle.rules.proofs.walks.walk_tasks.Statement.{statement}
 use Rattle.rules.proofs.walks.walk_tasks.Tie as tie
 use Rattle.rules.proofs.walks.walk_tasks.Reads as reads
@@ -15,14 +15,17 @@ use Rattle.board.proofs.bytes.first_task.Reads as first-task-reads
 use Rattle.rules.proofs.walks.task_turn.Reads as task-turn-reads
 
 abbrev Inv-loop : tie.InvT-loop
-Inv-loop z b most link₀ low₀ seen₀ link low seen = (seen ≤ most) × (most ≡ z .messages) × (visited (nextTask (boardOf z b)) (taskNumber (boardOf z b)) (present (boardOf z b)) (z .messages - seen) link low seen ≡ visited (nextTask (boardOf z b)) (taskNumber (boardOf z b)) (present (boardOf z b)) (z .messages) (boardOf z b .first) 0 0)
+Inv-loop z b limit link₀ low₀ seen₀ link low seen =
+    (seen ≤ limit) × (limit ≡ z .messages)
+    × (visited (nextTask (boardOf z b)) (taskNumber (boardOf z b)) (present (boardOf z b)) (limit - seen) link low seen
+    ≡ visited (nextTask (boardOf z b)) (taskNumber (boardOf z b)) (present (boardOf z b)) (z .messages) (boardOf z b .first) 0 0)
 
 abbrev μ-loop : tie.MeasureT-loop
-μ-loop z b most link₀ low₀ seen₀ link low seen = most - seen
+μ-loop z b limit link₀ low₀ seen₀ link low seen = limit - seen
 
 -- src/walks.rt:48:16
-cast-most : tie.Need-cast-most Inv-loop μ-loop
-cast-most c = search needs
+cast-limit : tie.Need-cast-limit Inv-loop μ-loop
+cast-limit c = search needs
 
 -- src/walks.rt:49:20
 first-task-requires : tie.Need-first-task-requires Inv-loop μ-loop
@@ -34,11 +37,14 @@ cast-link c = search needs
 
 -- src/walks.rt:52:5
 loop-holds : tie.Need-loop-holds Inv-loop μ-loop
-loop-holds c = (omega arith, refl, walk-starts (nextTask (boardOf (c .before .before .before .args .z) (now (c .before .before .before .args .b)))) (taskNumber (boardOf (c .before .before .before .args .z) (now (c .before .before .before .args .b)))) (present (boardOf (c .before .before .before .args .z) (now (c .before .before .before .args .b)))) (c .before .before .before .args .z .messages) _ _ (c .first-task .ensures))
+loop-holds c =
+    let a = c .before .before .before .args in
+    let b = boardOf (a .z) (now (a .b)) in
+    (omega arith, refl, walk-starts (nextTask b) (taskNumber b) (present b) (a .z .messages) (c .first-task .ensures))
 
 -- src/walks.rt:54:13
 returns : tie.Need-returns Inv-loop μ-loop
-returns c = walk-ends (nextTask (boardOf (c .before .before .before .before .before .before .args .z) (now (c .before .before .before .before .before .before .args .b)))) (taskNumber (boardOf (c .before .before .before .before .before .before .args .z) (now (c .before .before .before .before .before .before .args .b)))) (present (boardOf (c .before .before .before .before .before .before .args .z) (now (c .before .before .before .before .before .before .args .b)))) (c .before .before .before .before .before .before .args .z .messages) _ (c .before .before .loop .link) (c .before .before .loop .low) (c .before .before .loop .seen) (c .before .before .loop .inv .2) (c .if1 .taken)
+returns c = walk-ends _ _ _ _ _ _ _ (c .before .before .loop .inv .2) (c .if1 .taken)
 
 -- src/walks.rt:56:13
 task-turn-requires : tie.Need-task-turn-requires Inv-loop μ-loop
@@ -54,7 +60,11 @@ enum-told c = search needs
 
 -- src/walks.rt:58:13
 returns-2 : tie.Need-returns-2 Inv-loop μ-loop
-returns-2 c = walk-strays (nextTask (boardOf (c .before .before .before .before .before .before .before .before .before .args .z) (now (c .before .before .before .before .before .before .before .before .before .args .b)))) (taskNumber (boardOf (c .before .before .before .before .before .before .before .before .before .args .z) (now (c .before .before .before .before .before .before .before .before .before .args .b)))) (present (boardOf (c .before .before .before .before .before .before .before .before .before .args .z) (now (c .before .before .before .before .before .before .before .before .before .args .b)))) (c .before .before .before .before .before .before .before .before .before .args .z .messages) _ (c .before .before .before .before .before .loop .link) (c .before .before .before .before .before .loop .low) (c .before .before .before .before .before .loop .seen) (c .before .before .before .before .before .loop .inv .2) (omega arith) (c .before .before .before .if1 .left) (sym (c .enum-told .given .1) ∙ c .before .before .task-turn .ensures)
+returns-2 c =
+    walk-strays _ _ _ (c .before .before .before .before .before .before .before .before .before .args .z .messages) _ _
+    (c .before .before .before .before .before .loop .seen) (c .before .before .before .before .before .loop .inv .2)
+    (omega arith) (c .before .before .before .if1 .left)
+    (sym (c .enum-told .given .1) ∙ c .before .before .task-turn .ensures)
 
 -- src/walks.rt:62:9
 add-seen : tie.Need-add-seen Inv-loop μ-loop
@@ -66,15 +76,22 @@ loop-less c = omega arith
 
 -- src/walks.rt:52:5
 loop-again : tie.Need-loop-again Inv-loop μ-loop
-loop-again c = (omega arith, c .before .before .before .before .before .before .loop .inv .1, walk-goes-on (nextTask (boardOf (c .before .before .before .before .before .before .before .before .before .before .args .z) (now (c .before .before .before .before .before .before .before .before .before .before .args .b)))) (taskNumber (boardOf (c .before .before .before .before .before .before .before .before .before .before .args .z) (now (c .before .before .before .before .before .before .before .before .before .before .args .b)))) (present (boardOf (c .before .before .before .before .before .before .before .before .before .before .args .z) (now (c .before .before .before .before .before .before .before .before .before .before .args .b)))) (c .before .before .before .before .before .before .before .before .before .before .args .z .messages) _ (c .before .before .before .before .before .before .loop .link) (c .before .before .before .before .before .before .loop .low) (c .before .before .before .before .before .before .loop .seen) (c .before .before .before .before .before .before .loop .inv .2) _ _ (omega arith) (c .before .before .before .before .if1 .left) (sym (c .before .turn .given .1) ∙ c .before .before .before .task-turn .ensures))
+loop-again c = (
+  omega arith,
+  refl,
+  walk-goes-on _ _ _ (c .before .before .before .before .before .before .before .before .before .before .args .z .messages) _ _ (c .before .before .before .before .before .before .loop .seen) (c .before .before .before .before .before .before .loop .inv .2) (omega arith) (c .before .before .before .before .if1 .left)
+      (sym (c .before .turn .given .1) ∙ c .before .before .before .task-turn .ensures),
+)
 
 -- src/walks.rt:65:9
 returns-3 : tie.Need-returns-3 Inv-loop μ-loop
-returns-3 c = walk-ends (nextTask (boardOf (c .before .before .before .before .before .before .args .z) (now (c .before .before .before .before .before .before .args .b)))) (taskNumber (boardOf (c .before .before .before .before .before .before .args .z) (now (c .before .before .before .before .before .before .args .b)))) (present (boardOf (c .before .before .before .before .before .before .args .z) (now (c .before .before .before .before .before .before .args .b)))) (c .before .before .before .before .before .before .args .z .messages) _ (c .before .before .loop .link) (c .before .before .loop .low) (c .before .before .loop .seen) (c .before .before .loop .inv .2) (c .if2 .taken)
+returns-3 c = walk-ends _ _ _ _ _ _ _ (c .before .before .loop .inv .2) (c .if2 .taken)
 
 -- src/walks.rt:45:1
 returns-4 : tie.Need-returns-4 Inv-loop μ-loop
-returns-4 c = walk-gives-up (nextTask (boardOf (c .before .before .before .before .before .before .args .z) (now (c .before .before .before .before .before .before .args .b)))) (taskNumber (boardOf (c .before .before .before .before .before .before .args .z) (now (c .before .before .before .before .before .before .args .b)))) (present (boardOf (c .before .before .before .before .before .before .args .z) (now (c .before .before .before .before .before .before .args .b)))) (c .before .before .before .before .before .before .args .z .messages) _ (c .before .before .loop .link) (c .before .before .loop .low) (c .before .before .loop .seen) (c .before .before .loop .inv .2) (omega arith) (c .if2 .left)
+returns-4 c =
+    walk-gives-up _ _ _ (c .before .before .before .before .before .before .args .z .messages) _ _ (c .before .before .loop .seen)
+    (c .before .before .loop .inv .2) (omega arith) (c .if2 .left)
 
 pub walk-tasks-spec : {M : Type 1} → statement M
 walk-tasks-spec =
@@ -82,7 +99,7 @@ walk-tasks-spec =
     (tie.spec
     Inv-loop
     μ-loop
-    cast-most
+    cast-limit
     first-task-requires
     cast-link
     loop-holds

@@ -1,4 +1,3 @@
-use mathlib.Core.Path.{_≡_, sym, ap, _∙_}
 use denote.Ref.{now}
 use Rattle.rules.proofs.Tests.{nobody-due, somebody-due}
 use borrow.Author.Needs.{needs}
@@ -24,7 +23,9 @@ enum-told c = search needs
 
 -- src/who.rt:39:9
 returns : tie.Need-returns
-returns c = nobody-due (c .before .before .before .before .args .z) (now (c .before .before .before .before .args .b)) _ (c .before .before .running .ensures) (c .enum-told .given .1)
+returns c =
+    let a = c .before .before .before .before .args in
+    nobody-due (a .z) (now (a .b)) _ (c .before .before .running .ensures) (c .enum-told .given .1)
 
 -- src/who.rt:41:9
 task-at-requires : tie.Need-task-at-requires
@@ -36,7 +37,11 @@ has-requires c κs = search needs
 
 -- src/who.rt:34:1
 returns-2 : tie.Need-returns-2
-returns-2 c = somebody-due (c .before .before .before .before .before .before .before .before .args .z) (now (c .before .before .before .before .before .before .before .before .args .b)) _ (c .before .before .before .before .before .before .running .ensures) (c .before .before .before .before .who .given .0 .0) (c .before .before .task-at .result) _ (c .before .before .before .before .who .given .1) (c .before .before .task-at .ensures) (c .has .ensures)
+returns-2 c =
+    let a = c .before .before .before .before .before .before .before .before .args in
+    somebody-due (a .z) (now (a .b)) _ (c .before .before .before .before .before .before .running .ensures) _
+    (c .before .before .task-at .result) _
+    (c .before .before .before .before .who .given .1) (c .before .before .task-at .ensures) (c .has .ensures)
 
 pub rule7-spec : {M : Type 1} → statement M
 rule7-spec =

@@ -1,14 +1,14 @@
-use borrow.Author.Needs.{needs}
-use mathlib.Core.Path.{_≡_, refl, sym, ap, _∙_}
+use mathlib.Core.Path.{_≡_, sym, ap, _∙_}
 use Prim.Native.Nat.{ℕ}
 use native.Mathlib.Omega.{arith}
 use denote.Ref.{now}
+use borrow.Author.Needs.{needs}
 use Rattle.links.specs.Queue.{walk, firstWith}
+use Rattle.board.specs.declared.records.Task.{Task}
 use Rattle.board.specs.Numbers.{taskMeant}
+use Rattle.board.specs.Status.{isReady}
 use Rattle.board.specs.Board.{boardOf}
 use Rattle.paper.specs.Rules.{nextTask, ready, running}
-use Rattle.board.specs.declared.records.Task.{Task}
-use Rattle.board.specs.Status.{isReady}
 use Rattle.rules.proofs.Turns.{first-none, first-out, first-found, first-behind}
 use Rattle.rules.proofs.who.running.Statement.{statement}
 use Rattle.rules.proofs.who.running.Tie as tie
@@ -35,11 +35,18 @@ cast-k c = search needs
 
 -- src/who.rt:20:5
 loop-holds : tie.Need-loop-holds Inv-loop μ-loop
-loop-holds c = ap (λ (x : ℕ). firstWith (ready (boardOf (c .before .before .args .z) (now (c .before .before .args .b)))) (walk (nextTask (boardOf (c .before .before .args .z) (now (c .before .before .args .b)))) (c .before .before .args .z .messages) x)) (c .first-task .ensures)
+loop-holds c =
+    let a = c .before .before .args in
+    let b = boardOf (a .z) (now (a .b)) in
+    ap (λ (x : ℕ). firstWith (ready b) (walk (nextTask b) (a .z .messages) x)) (c .first-task .ensures)
 
 -- src/who.rt:22:13
 returns : tie.Need-returns Inv-loop μ-loop
-returns c = ap (taskMeant (c .before .before .before .before .before .args .z)) (first-none (ready (boardOf (c .before .before .before .before .before .args .z) (now (c .before .before .before .before .before .args .b)))) (nextTask (boardOf (c .before .before .before .before .before .args .z) (now (c .before .before .before .before .before .args .b)))) (c .before .before .loop .left) (c .before .before .loop .k) _ (c .before .before .loop .inv) (c .if1 .taken))
+returns c =
+    let l = c .before .before .loop in
+    let a = c .before .before .before .before .before .args in
+    let b = boardOf (a .z) (now (a .b)) in
+    ap (taskMeant (a .z)) (first-none (ready b) (nextTask b) (l .left) (l .k) (l .inv) (c .if1 .taken))
 
 -- src/who.rt:24:13
 task-meant-requires : tie.Need-task-meant-requires Inv-loop μ-loop
@@ -55,7 +62,15 @@ meant-requires c κs = search needs
 
 -- src/who.rt:26:13
 returns-2 : tie.Need-returns-2 Inv-loop μ-loop
-returns-2 c = c .meant .ensures ∙ ap (taskMeant (c .before .before .before .before .before .before .before .before .before .args .z)) (first-found (ready (boardOf (c .before .before .before .before .before .before .before .before .before .args .z) (now (c .before .before .before .before .before .before .before .before .before .args .b)))) (nextTask (boardOf (c .before .before .before .before .before .before .before .before .before .args .z) (now (c .before .before .before .before .before .before .before .before .before .args .b)))) (c .before .before .before .before .before .before .loop .left) (c .before .before .before .before .before .before .loop .k) _ (c .before .before .before .before .before .before .loop .inv) (c .before .before .before .before .before .loop-test .taken) (c .before .before .before .before .if1 .left) (sym (c .before .before .ready .ensures ∙ ap (λ (t : Task). isReady (t .stat)) (c .before .before .before .task-meant .ensures)) ∙ c .before .if2 .taken))
+returns-2 c =
+    let l = c .before .before .before .before .before .before .loop in
+    let a = c .before .before .before .before .before .before .before .before .before .args in
+    let b = boardOf (a .z) (now (a .b)) in
+    c .meant .ensures
+    ∙ ap (taskMeant (a .z))
+    (first-found (ready b) (nextTask b) (l .left) (l .k) (l .inv) (omega arith) (c .before .before .before .before .if1 .left)
+    (sym (c .before .before .ready .ensures ∙ ap (λ (t : Task). isReady (t .stat))
+    (c .before .before .before .task-meant .ensures)) ∙ c .before .if2 .taken))
 
 -- src/who.rt:29:9
 sub-left : tie.Need-sub-left Inv-loop μ-loop
@@ -67,11 +82,23 @@ loop-less c = search needs
 
 -- src/who.rt:20:5
 loop-again : tie.Need-loop-again Inv-loop μ-loop
-loop-again c = first-behind (ready (boardOf (c .before .before .before .before .before .before .before .before .args .z) (now (c .before .before .before .before .before .before .before .before .args .b)))) (nextTask (boardOf (c .before .before .before .before .before .before .before .before .args .z) (now (c .before .before .before .before .before .before .before .before .args .b)))) (c .before .before .before .before .before .loop .left) (c .before .before .before .before .before .loop .k) _ (c .before .before .before .before .before .loop .inv) _ (ap (λ (t : Task). t .link) (c .before .before .task-meant .ensures)) (c .before .before .before .before .loop-test .taken) (c .before .before .before .if1 .left) (sym (c .before .ready .ensures ∙ ap (λ (t : Task). isReady (t .stat)) (c .before .before .task-meant .ensures)) ∙ c .if2 .left)
+loop-again c =
+    let l = c .before .before .before .before .before .loop in
+    let a = c .before .before .before .before .before .before .before .before .args in
+    let b = boardOf (a .z) (now (a .b)) in
+    first-behind (ready b) (nextTask b) (l .left) (l .k) (l .inv)
+    (ap (λ (t : Task). t .link) (c .before .before .task-meant .ensures))
+    (omega arith) (c .before .before .before .if1 .left)
+    (sym (c .before .ready .ensures ∙ ap (λ (t : Task). isReady (t .stat)) (c .before .before .task-meant .ensures))
+    ∙ c .if2 .left)
 
 -- src/who.rt:15:1
 returns-3 : tie.Need-returns-3 Inv-loop μ-loop
-returns-3 c = ap (taskMeant (c .before .before .before .before .args .z)) (first-out (ready (boardOf (c .before .before .before .before .args .z) (now (c .before .before .before .before .args .b)))) (nextTask (boardOf (c .before .before .before .before .args .z) (now (c .before .before .before .before .args .b)))) (c .before .loop .left) (c .before .loop .k) _ (c .before .loop .inv) (omega arith))
+returns-3 c =
+    let l = c .before .loop in
+    let a = c .before .before .before .before .args in
+    let b = boardOf (a .z) (now (a .b)) in
+    ap (taskMeant (a .z)) (first-out (ready b) (nextTask b) (l .left) (l .k) (l .inv) (omega arith))
 
 pub running-spec : {M : Type 1} → statement M
 running-spec =

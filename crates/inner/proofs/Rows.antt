@@ -1,0 +1,118 @@
+-- A row of refusals, test by test: what the answers of inner steps say of the verdict. Assumes nothing.
+use mathlib.Core.Path.{_≡_, refl, sym, ap, _∙_}
+use mathlib.Core.Logic.{_≢_}
+use mathlib.Core.Bool.{Bool, true, false, cond, not, _||_}
+use mathlib.Core.List.{List, [], _∷_, _++_}
+use Prim.Native.Nat.{ℕ, _≤_}
+use native.Mathlib.Omega.{arith}
+use native.Mathlib.Decide.{ℕ-discrete}
+use lib.ListN.{length}
+use lib.Dec.{eqb}
+use borrow.Author.Tests.{eq-eqb, ne-eqb}
+use Rattle.board.specs.declared.numbers.Size.{Size}
+use Rattle.board.specs.declared.numbers.TaskNo.{TaskNo}
+use Rattle.board.specs.declared.numbers.MsgNo.{MsgNo}
+use Rattle.board.specs.declared.numbers.TaskMeant.{TaskMeant}
+use Rattle.board.specs.declared.numbers.TaskMeant.the-variants.{Task, NoTask}
+use Rattle.board.specs.Numbers.{outside, taskNo, taskMeant}
+use Rattle.board.specs.Board.{Board, boardOf}
+use Rattle.board.proofs.Pieces.{outside-within, within-outside}
+use Rattle.board.proofs.Meant.{taskMeant-task, taskMeant-none}
+use Rattle.board.proofs.Codec.{length-tasks}
+use Rattle.paper.specs.declared.answer.Refusal.{Refusal}
+use Rattle.paper.specs.Rules.{present, running}
+use Rattle.paper.specs.Refusals.{Test, no3, no4, no5, no6, Verdict, Go, Stop, lowest}
+use Rattle.kept.proofs.Reading.{present-numbered, runner-says}
+use Rattle.inner.specs.declared.step.Held.{Held}
+use Rattle.inner.specs.declared.step.Held.the-variants as held
+use Rattle.inner.specs.Inner.{heldBy, heldOf, presentMeant}
+
+-- ---- one test
+-- a test that applies stops
+pub lowest-stop : (t : Test) (tests : List Test) → t .applies ≡ true → lowest (t ∷ tests) ≡ Stop (t .refusal)
+lowest-stop t tests e = rw (e, lowest)
+
+-- one that does not is passed
+pub lowest-on : (t : Test) (tests : List Test) → t .applies ≡ false → lowest (t ∷ tests) ≡ lowest tests
+lowest-on t tests e = rw (e, lowest)
+
+-- ---- several
+abbrev orElse : Verdict → Verdict → Verdict
+orElse Go v = v
+orElse (Stop q) v = Stop q
+
+lowest-append : (a b : List Test) → lowest (a ++ b) ≡ orElse (lowest a) (lowest b)
+lowest-append [] b = refl
+lowest-append (t ∷ a) b = go (t .applies) (lowest-append a b)
+  where
+    go : (s : Bool) → lowest (a ++ b) ≡ orElse (lowest a) (lowest b)
+        → elim s [ true ↦ Stop (t .refusal) | false ↦ lowest (a ++ b) ] ≡ orElse (elim s [ true ↦ Stop (t .refusal) | false ↦ lowest a ]) (lowest b)
+    go true e = refl
+    go false e = e
+
+-- ---- who runs
+-- the running task is 0 or a number of the board
+runner-within : (z : Size) (l : List ℕ) → running z (boardOf z l) ≢ 0 → outside (z .tasks) (running z (boardOf z l)) ≡ false
+runner-within z l n =
+    let r : ℕ = running z (boardOf z l) in
+    let p = present-numbered (boardOf z l) r (runner-says z (boardOf z l) n .0) in
+    within-outside (z .tasks) r (p .0) (let e = length-tasks z l in omega (arith, p .1))
+
+-- nobody runs: 3 applies
+pub nobody-runs : (z : Size) (l : List ℕ) → taskMeant z (running z (boardOf z l)) ≡ NoTask → no3 (running z (boardOf z l)) .applies ≡ true
+nobody-runs z l e = go (ℕ-discrete r 0)
+  where
+    r : ℕ
+    r = running z (boardOf z l)
+
+    go : Dec (r ≡ 0) → eqb r 0 ≡ true
+    go (yes q) = eq-eqb r 0 q
+    go (no n) = absurd (let x : true ≡ false = sym (taskMeant-none z r e) ∙ runner-within z l n in let y : _≡_ {A = ℕ} 1 0 = ap (λ (t : Bool). cond t 1 0) x in omega arith)
+
+-- one does: 3 does not apply, and it is that one
+pub one-runs : (z : Size) (l : List ℕ) (c : TaskNo) → taskMeant z (running z (boardOf z l)) ≡ Task c
+    → (no3 (running z (boardOf z l)) .applies ≡ false) × (c ≡ taskNo (running z (boardOf z l)))
+one-runs z l c e =
+    let r : ℕ = running z (boardOf z l) in
+    let m = taskMeant-task z r c e in
+    (ne-eqb r 0 (λ q. let h = outside-within (z .tasks) r (m .0) in omega (arith, h .0)), m .1)
+
+-- ---- the message that is held
+-- it is: 3, 4 and 5 are passed
+pub held-row : (z : Size) (b : Board) (c w : ℕ) (k : TaskNo) (m : MsgNo) (tests : List Test) → heldOf z b c w ≡ held.By k m
+    → (lowest (no3 c ∷ no4 z w ∷ no5 b c w ∷ tests) ≡ lowest tests) × (k ≡ taskNo c) × (m ≡ record { 0 = w })
+held-row z b c w k m tests e = go (lowest (no3 c ∷ no4 z w ∷ no5 b c w ∷ [])) refl e
+  where
+    go : (v : Verdict) → lowest (no3 c ∷ no4 z w ∷ no5 b c w ∷ []) ≡ v → heldBy v c w ≡ held.By k m
+        → (lowest (no3 c ∷ no4 z w ∷ no5 b c w ∷ tests) ≡ lowest tests) × (k ≡ taskNo c) × (m ≡ record { 0 = w })
+    go Go p q = (lowest-append (no3 c ∷ no4 z w ∷ no5 b c w ∷ []) tests ∙ ap (λ (v : Verdict). orElse v (lowest tests)) p, cc, cc)
+    go (Stop r) p q = absurd (let y : _≡_ {A = ℕ} 0 1 = cc in omega arith)
+
+-- it is not: one of them stops
+pub not-held-row : (z : Size) (b : Board) (c w : ℕ) (q : Refusal) (tests : List Test) → heldOf z b c w ≡ held.Not q
+    → lowest (no3 c ∷ no4 z w ∷ no5 b c w ∷ tests) ≡ Stop q
+not-held-row z b c w q tests e = go (lowest (no3 c ∷ no4 z w ∷ no5 b c w ∷ [])) refl e
+  where
+    go : (v : Verdict) → lowest (no3 c ∷ no4 z w ∷ no5 b c w ∷ []) ≡ v → heldBy v c w ≡ held.Not q
+        → lowest (no3 c ∷ no4 z w ∷ no5 b c w ∷ tests) ≡ Stop q
+    go Go p r = absurd (let y : _≡_ {A = ℕ} 0 1 = cc in omega arith)
+    go (Stop s) p r =
+        lowest-append (no3 c ∷ no4 z w ∷ no5 b c w ∷ []) tests ∙ ap (λ (v : Verdict). orElse v (lowest tests)) p
+        ∙ ap Stop (let x : s ≡ q = cc in x)
+
+-- ---- the task that is meant
+pub task-row : (z : Size) (b : Board) (w : ℕ) (k : TaskNo) → presentMeant z b w ≡ Task k
+    → (no6 z b w .applies ≡ false) × (k ≡ taskNo w)
+task-row z b w k e = go (outside (z .tasks) w || not (present b w)) refl e
+  where
+    go : (t : Bool) → outside (z .tasks) w || not (present b w) ≡ t → cond t NoTask (Task (taskNo w)) ≡ Task k
+        → (no6 z b w .applies ≡ false) × (k ≡ taskNo w)
+    go true p q = absurd (let y : _≡_ {A = ℕ} 0 1 = cc in omega arith)
+    go false p q = (p, cc)
+
+pub no-task-row : (z : Size) (b : Board) (w : ℕ) → presentMeant z b w ≡ NoTask → no6 z b w .applies ≡ true
+no-task-row z b w e = go (outside (z .tasks) w || not (present b w)) refl e
+  where
+    go : (t : Bool) → outside (z .tasks) w || not (present b w) ≡ t → cond t NoTask (Task (taskNo w)) ≡ NoTask → no6 z b w .applies ≡ true
+    go true p q = p
+    go false p q = absurd (let y : _≡_ {A = ℕ} 0 1 = cc in omega arith)

@@ -1,0 +1,126 @@
+// PROGRAM. Cases from standard input, one after the other: the length of the board as a word, a call of nine bytes (kind, three words, STAT,
+// PRIO; kind 0 checks the board, kind 20 makes it fresh), and the board. For each it writes a line: refusal number, value, running and
+// delivered, and then each byte of the board that changed, as place=value. So any other maker's answers can be compared with ours as text.
+ghost use Prim.Native.Nat.{_<_};
+use libc::STDIN_FILENO;
+use libc::STDOUT_FILENO;
+use paper::answer::Answer;
+use paper::answer::Refusal;
+use station::pack::refusal_number;
+
+fn wide(x: u8) -> u16
+    ensures { λ res. ⌜ res < 256 ⌝ }
+{
+    x as u16
+}
+
+fn print_number(n: u16) {
+    io::print_decimal(STDOUT_FILENO, n as u64);
+}
+
+fn print_text(text: &[u8]) {
+    io::write_all(STDOUT_FILENO, text);
+}
+
+fn print_answer(a: Answer) {
+    match a {
+        Answer::Accepted {
+            value,
+            running,
+            delivered,
+        } => {
+            print_text(b"0 ");
+            print_number(value);
+            print_text(b" ");
+            print_number(running);
+            print_text(b" ");
+            print_number(delivered);
+        }
+        Answer::Refused(q) => {
+            print_number(wide(refusal_number(q)));
+            print_text(b" 0 0 0");
+        }
+    }
+}
+
+fn print_change(i: usize, v: u8) {
+    print_text(b" ");
+    io::print_decimal(STDOUT_FILENO, i as u64);
+    print_text(b"=");
+    print_number(wide(v));
+}
+
+fn print_changes(before: &[u8], after: &[u8]) {
+    let n = before.len();
+    let mut i: usize = 0;
+    while i < n {
+        if i < after.len() {
+            if before[i] != after[i] {
+                print_change(i, after[i]);
+            }
+        }
+        i += 1;
+    }
+}
+
+fn put(to: &mut [u8], i: usize, v: u8) {
+    if i < to.len() {
+        to[i] = v;
+    }
+}
+
+fn copy(from: &[u8], to: &mut [u8]) {
+    let n = from.len();
+    let mut i: usize = 0;
+    while i < n {
+        put(to, i, from[i]);
+        i += 1;
+    }
+}
+
+fn answer_to(kind: u8, board: &mut [u8]) -> Answer {
+    if kind == 20 {
+        return station::fresh(board);
+    }
+    station::check(board)
+}
+
+// The board read, the call made on a copy of it, and its line; false where the board is cut short.
+fn answer_case(kind: u8, before: &mut [u8], after: &mut [u8]) -> bool {
+    if io::read_full(STDIN_FILENO, before) < before.len() {
+        print_text(b"error: the last board is cut short\n");
+        return false;
+    }
+    copy(before, after);
+    print_answer(answer_to(kind, after));
+    print_changes(before, after);
+    print_text(b"\n");
+    true
+}
+
+// One case; false at the end of the input, or where it is cut short.
+fn one_case() -> bool {
+    let mut head = [0u8; 11];
+    let got = io::read_full(STDIN_FILENO, &mut head);
+    if got == 0 {
+        return false;
+    }
+    if got < 11 {
+        print_text(b"error: the last call is cut short\n");
+        return false;
+    }
+    let n = (wide(head[0]) as usize) + 256 * (wide(head[1]) as usize);
+    let mut before = io::large_buffer();
+    let mut after = io::large_buffer();
+    answer_case(head[2], &mut before[..n], &mut after[..n])
+}
+
+fn main() {
+    let mut turns = u64::MAX;
+    while turns > 0 {
+        if !one_case() {
+            return;
+        }
+        turns -= 1;
+    }
+}

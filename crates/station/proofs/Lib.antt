@@ -1,0 +1,3 @@
+pub mod Answers
+pub mod Packing
+pub mod NoCall

@@ -1,0 +1,8 @@
+-- An answer as one word, for C. A reader of the exports must believe this file.
+--   packed h     from the lowest bit: 8 bits number, 16 bits value, 16 bits running, 16 bits delivered
+-- Assumes nothing.
+use Prim.Native.Nat.{ℕ, _+_, _*_}
+use Rattle.paper.specs.Answers.{Handed}
+
+abbrev pub packed : Handed → ℕ
+packed h = h .number + 256 * h .value + 16777216 * h .running + 1099511627776 * h .delivered

@@ -1,0 +1,4 @@
+pub mod Comes
+pub mod Bodies
+pub mod Calls
+pub mod Theorems
