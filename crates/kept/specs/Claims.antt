@@ -1,12 +1,13 @@
 -- What calls keep, as statements; their proofs are in proofs/Theorems. A reader must believe this file.
 --   BodyStands          the body of a call that no refusal of its row stops leaves R1 to R6, and the lists that After says
+--   BodyFrame           it changes only the records that Frames says; DispatchFrame: dispatch only the running task and its message
 --   NeverStuck          refusal 15 is given on no board that passes
 --   PassingStaysPassing an accepted call on a board that passes leaves one that passes
 -- Assumes nothing.
 use mathlib.Core.Path.{_≡_}
 use mathlib.Core.Logic.{_≢_}
 use mathlib.Core.Bool.{Bool, true, false}
-use mathlib.Core.List.{List}
+use mathlib.Core.List.{List, [], _∷_}
 use Prim.Native.Nat.{ℕ, _≤_, _<_}
 use lib.ListN.{length, getD}
 use Rattle.board.specs.declared.numbers.Size.{Size}
@@ -17,11 +18,13 @@ use Rattle.board.specs.Board.{Board, total, boardOf, task}
 use Rattle.paper.specs.declared.call.Call.{Call}
 use Rattle.paper.specs.declared.answer.Refusal.the-variants.{NothingToDeliver}
 use Rattle.paper.specs.declared.answer.Answer.the-variants.{Refused}
-use Rattle.paper.specs.Rules.{running, passes}
+use Rattle.paper.specs.Rules.{queue, running, passes}
+use Rattle.paper.specs.Changes.{clears, takeFirst}
 use Rattle.paper.specs.Refusals.{own, Go, lowest}
 use Rattle.paper.specs.Step.{Outcome, Done, body, effect}
 use Rattle.kept.specs.Stands.{Byte, Stands, Fitting}
 use Rattle.kept.specs.After.{orderAfter, queuesAfter}
+use Rattle.kept.specs.Frames.{tasksOf, messagesOf, queueOf, relinks, Frame}
 
 -- sizes for which a place byte tells held from queued, links are words, and one limit serves both kinds of walk
 pub record Sizes (z : Size) : Type 0 where
@@ -35,6 +38,20 @@ BodyStands =
     → let c = running z b in has (task b c .stat) MHBS ≡ false → lowest (own z b c call) ≡ Go
     → Stands z (body z b c call .board) (orderAfter b order call) (queuesAfter b c queues call)
 
+-- ---- what else stays
+abbrev pub BodyFrame : Type 0
+BodyFrame =
+    (z : Size) (b : Board) (order : List ℕ) (queues : ℕ → List ℕ) (call : Call) → Sizes z → Stands z b order queues
+    → let c = running z b in lowest (own z b c call) ≡ Go
+    → Frame b (body z b c call .board) (tasksOf b c call) (messagesOf b c call) (queue z b (queueOf b c call)) (relinks call)
+
+abbrev pub DispatchFrame : Type 0
+DispatchFrame =
+    (z : Size) (b : Board) (order : List ℕ) (queues : ℕ → List ℕ) → Sizes z → Stands z b order queues
+    → let c = running z b in has (task b c .stat) MHBS ≡ true
+    → Frame b (clears (takeFirst z b c) c MHBS) (c ∷ []) (task b c .mptr ∷ []) (queue z b c) false
+
+-- ---- histories of a board
 -- a list of bytes of the board's length
 pub record Bytes (z : Size) (l : List ℕ) : Type 0 where
   pub long : length l ≡ total z

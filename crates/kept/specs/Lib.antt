@@ -1,3 +1,4 @@
 pub mod Stands
 pub mod After
+pub mod Frames
 pub mod Claims

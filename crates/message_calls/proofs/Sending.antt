@@ -107,15 +107,16 @@ module _ (z : Size) (l : List ℕ) (c : TaskNo) (m w : ℕ) (meant : TaskMeant) 
         (placed.By c) d refl
         (ed ∙ (λ i. placeAtIn z l m (task-row z b w k (sym em ∙ ek) .1 i .0)))
 
--- ---- resend, forward, return: the task meant is to m
+-- ---- resend, forward, return
+-- a call whose row ends with 6 and 7 and whose body places m at the task to m, the message held and passed on to w
 pub passes-on : (z : Size) (l : List ℕ) (call : Call) (m : ℕ) (to : ℕ → ℕ)
     → (let b = boardOf z l in let c = running z b in
     own z b c call ≡ no3 c ∷ no4 z m ∷ no5 b c m ∷ no6 z b (to m) ∷ no7 b m ∷ [])
     → bodyIn z l (running z (boardOf z l)) call .after ≡ placeAtIn z l m (to m) → (h : Held)
     → h ≡ heldOf z (boardOf z l) (running z (boardOf z l)) m → (k : TaskNo) (one : MsgNo) → h ≡ held.By k one
-    → (w : ℕ) → w ≡ to (one .0) → (x : Placed) (d : List ℕ) → Makes x d (passing z l (k .0) (one .0) w)
+    → (x : Placed) (d : List ℕ) (w : ℕ) → Makes x d (passing z l (k .0) (one .0) w) → w ≡ to (one .0)
     → Makes x d (placing z l call)
-passes-on z l call m to row body h eh k one by w ew x d made =
+passes-on z l call m to row body h eh k one by x d w made ew =
     let b = boardOf z l in
     let c = running z b in
     let g = held-goes z l call m (no6 z b (to m) ∷ no7 b m ∷ []) row h eh k one by in

@@ -40,23 +40,26 @@ counted-bound f (suc n) = go (f (suc n)) (counted-bound f n)
     go false h = omega arith
 
 -- ---- sums over the numbers from 1 to n
+-- f 1 + .. + f n
 abbrev pub sumTo : (ℕ → ℕ) → ℕ → ℕ
 sumTo f zero = 0
 sumTo f (suc n) = sumTo f n + f (suc n)
 
+-- equal terms
 pub sum-same : (f g : ℕ → ℕ) (n : ℕ) → ((k : ℕ) → f k ≡ g k) → sumTo f n ≡ sumTo g n
 sum-same f g zero h = refl
 sum-same f g (suc n) h = ap₂ (λ (a b : ℕ). a + b) (sum-same f g n h) (h (suc n))
 
+-- zeros
 pub sum-zero : (n : ℕ) → sumTo (λ k. 0) n ≡ 0
 sum-zero zero = refl
 sum-zero (suc n) = let e = sum-zero n in omega arith
 
+-- terms that are sums
 pub sum-add : (f g : ℕ → ℕ) (n : ℕ) → sumTo (λ k. f k + g k) n ≡ sumTo f n + sumTo g n
 sum-add f g zero = refl
 sum-add f g (suc n) = let e = sum-add f g n in omega arith
 
--- one number among them is counted once
 sum-past : (j n : ℕ) → n < j → sumTo (λ k. one (eqb j k)) n ≡ 0
 sum-past j zero h = refl
 sum-past j (suc n) h =
@@ -64,6 +67,7 @@ sum-past j (suc n) h =
     let d = ap one (ne-eqb j (suc n) (λ q. omega arith)) in
     omega arith
 
+-- one number among them is counted once
 pub sum-once : (j n : ℕ) → 1 ≤ j → j ≤ n → sumTo (λ k. one (eqb j k)) n ≡ 1
 sum-once j zero h i = absurd (omega arith)
 sum-once j (suc n) h i = go (eqb j (suc n)) refl (λ m. sum-once j n h m)
@@ -77,7 +81,6 @@ sum-once j (suc n) h i = go (eqb j (suc n)) refl (λ m. sum-once j n h m)
         let d = ap one e in
         omega arith
 
--- terms that are no greater, and the sums are equal: the terms are
 sum-below : (f g : ℕ → ℕ) (n : ℕ) → ((k : ℕ) → 1 ≤ k → k ≤ n → f k ≤ g k) → sumTo f n ≤ sumTo g n
 sum-below f g zero h = omega arith
 sum-below f g (suc n) h =
@@ -85,6 +88,7 @@ sum-below f g (suc n) h =
     let b = h (suc n) (omega arith) (omega arith) in
     omega arith
 
+-- terms that are no greater, and the sums are equal: the terms are
 pub sum-tight : (f g : ℕ → ℕ) (n : ℕ) → ((k : ℕ) → 1 ≤ k → k ≤ n → f k ≤ g k) → sumTo f n ≡ sumTo g n
     → (k : ℕ) → 1 ≤ k → k ≤ n → f k ≡ g k
 sum-tight f g zero h e k i j = absurd (omega arith)
@@ -103,6 +107,7 @@ sum-tight f g (suc n) h e k i j = go (eqb k (suc n)) refl (λ a b. sum-tight f g
         ap f r ∙ d ∙ ap g (sym r)
     go false q ih = let r = eqb-false k (suc n) q in ih (omega (arith, lower, last)) (omega (arith, r))
 
+-- terms that are equal from 1 to n
 pub sums-equal : (f g : ℕ → ℕ) (n : ℕ) → ((k : ℕ) → 1 ≤ k → k ≤ n → f k ≡ g k) → sumTo f n ≡ sumTo g n
 sums-equal f g zero h = refl
 sums-equal f g (suc n) h =
@@ -121,6 +126,7 @@ counted-past none f x l (suc n) = go (f (getD l n none)) (counted-past none f x 
     go true e = omega arith
     go false e = omega arith
 
+-- a test by number passes as many as the list of their numbers has
 pub counted-which : {A : Type 0} (none : A) (f : A → Bool) (s : ℕ) (l : List A)
     → counted (λ k. f (nth none l k)) (length l) ≡ length (which f s l)
 unfolding counted

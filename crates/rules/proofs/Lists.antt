@@ -100,6 +100,7 @@ module _ (next number : ℕ → ℕ) (good : ℕ → Bool) (n x : ℕ) (members 
       lists-seen seen-lists
 
 -- ---- R3
+-- the walk of the task queue saw as many as are present
 pub rule3-is : (z : Size) (b : Board) → length (b .tasks) ≡ z .tasks
     → saw (visited (nextTask b) (taskNumber b) (present b) (z .messages) (b .first) 0 0) (counted (present b) (z .tasks))
     ≡ rule3 z b
@@ -206,6 +207,7 @@ module _ (z : Size) (b : Board) where
       and-true (each fine n) _ (each-all fine n (λ k i j. at k i j .0))
       (eq-eqb _ _ (sums-equal (λ k. length (walkOf k)) (λ k. length (placedAt k)) n (λ k i j. eqb-true _ _ (at k i j .1))))
 
+  -- the walks of all queues together saw as many as are queued
   pub rule5-is : length (b .places) ≡ z .messages
       → ((i : ℕ) → i < length (b .places) → (none : Place) → Named z (getD (b .places) i none))
       → saw (walked z b (z .tasks)) (counted (queued b) (z .messages)) ≡ each (rule5At z b) (z .tasks)

@@ -127,8 +127,9 @@ walks-break z b (suc n) k h e = step (ℕ-discrete (k + 1) (suc n)) (λ i. walks
     step (yes i) ih = added-broken (walked z b n) ∙ ap (added (walked z b n)) (e ∙ ap (walkAt z b) i)
     step (no i) ih = ap (λ (w : Walked). added w (walkAt z b (suc n))) (ih (omega arith))
 
--- one queue more, which saw n messages
+-- one queue more, of which the walk saw n messages
 module _ (z : Size) (b : Board) (k s n : ℕ) (e : Seen n ≡ walkAt z b (k + 1)) where
+  -- they are added
   pub walks-on : walked z b k ≡ Seen s → walked z b (k + 1) ≡ Seen (s + n)
   unfolding walked
   walks-on f = let i : k + 1 ≡ suc k = omega arith in ap (walked z b) i ∙ ap₂ added f (ap (walkAt z b) (sym i) ∙ sym e)

@@ -63,6 +63,7 @@ module _ (next number : ℕ → ℕ) (good : ℕ → Bool) where
   visited-stray n x low s h g e = visited-turned n x low s h g ∙ ap (onward (n - 1) (s + 1)) e
 
   -- ---- what it comes to
+  -- all belong there
   abbrev pub every : List ℕ → Bool
   every [] = true
   every (x ∷ q) = good x && every q

@@ -46,7 +46,7 @@ same-length-2 c = search needs
 
 -- src/sends.rt:98:1
 returns-2 : tie.Need-returns-2
-returns-2 c = passes-on (c .before .before .before .before .before .before .before .before .before .before .args .z) (now (c .before .before .before .before .before .before .before .before .before .before .args .b)) (Forward (c .before .before .before .before .before .before .before .before .before .before .args .m) (c .before .before .before .before .before .before .before .before .before .before .args .r)) (c .before .before .before .before .before .before .before .before .before .before .args .m) (λ _. c .before .before .before .before .before .before .before .before .before .before .args .r) refl refl _ (c .before .before .before .before .before .before .before .held .ensures) _ _ (c .before .before .before .before .before .h .given .1) _ (refl) _ _ (c .before .before .pass-on .ensures)
+returns-2 c = passes-on (c .before .before .before .before .before .before .before .before .before .before .args .z) (now (c .before .before .before .before .before .before .before .before .before .before .args .b)) (Forward (c .before .before .before .before .before .before .before .before .before .before .args .m) (c .before .before .before .before .before .before .before .before .before .before .args .r)) (c .before .before .before .before .before .before .before .before .before .before .args .m) (λ _. c .before .before .before .before .before .before .before .before .before .before .args .r) refl refl _ (c .before .before .before .before .before .before .before .held .ensures) _ _ (c .before .before .before .before .before .h .given .1) _ _ _ (c .before .before .pass-on .ensures) refl
 
 pub forward-spec : {M : Type 1} → statement M
 forward-spec =

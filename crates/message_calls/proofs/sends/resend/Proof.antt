@@ -52,7 +52,7 @@ same-length-2 c = search needs
 
 -- src/sends.rt:87:1
 returns-2 : tie.Need-returns-2
-returns-2 c = passes-on (c .before .before .before .before .before .before .before .before .before .before .before .before .args .z) (now (c .before .before .before .before .before .before .before .before .before .before .before .before .args .b)) (Resend (c .before .before .before .before .before .before .before .before .before .before .before .before .args .m)) (c .before .before .before .before .before .before .before .before .before .before .before .before .args .m) (λ m. message (boardOf (c .before .before .before .before .before .before .before .before .before .before .before .before .args .z) (now (c .before .before .before .before .before .before .before .before .before .before .before .before .args .b))) m .rptr) refl refl _ (c .before .before .before .before .before .before .before .before .before .held .ensures) _ _ (c .before .before .before .before .before .before .before .h .given .1) _ (λ i. c .before .before .before .before .message-at .ensures i .rptr) _ _ (c .before .before .pass-on .ensures)
+returns-2 c = passes-on (c .before .before .before .before .before .before .before .before .before .before .before .before .args .z) (now (c .before .before .before .before .before .before .before .before .before .before .before .before .args .b)) (Resend (c .before .before .before .before .before .before .before .before .before .before .before .before .args .m)) (c .before .before .before .before .before .before .before .before .before .before .before .before .args .m) (λ m. message (boardOf (c .before .before .before .before .before .before .before .before .before .before .before .before .args .z) (now (c .before .before .before .before .before .before .before .before .before .before .before .before .args .b))) m .rptr) refl refl _ (c .before .before .before .before .before .before .before .before .before .held .ensures) _ _ (c .before .before .before .before .before .before .before .h .given .1) _ _ _ (c .before .before .pass-on .ensures) (λ i. c .before .before .before .before .message-at .ensures i .rptr)
 
 pub resend-spec : {M : Type 1} → statement M
 resend-spec =

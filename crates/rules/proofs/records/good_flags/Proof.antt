@@ -1,5 +1,6 @@
 use mathlib.Core.Path.{sym, _∙_}
-use Rattle.rules.proofs.Tests.{flags-wait-twice, flags-wait-due, flags-wait, flags-iwat-asked, flags-iwat, flags-due, flags-none}
+use Rattle.rules.proofs.Tests.{flags-wait-twice, flags-wait-due, flags-wait, flags-iwat-asked}
+use Rattle.rules.proofs.Tests.{flags-iwat, flags-due, flags-none}
 use borrow.Author.Needs.{needs}
 use Rattle.rules.proofs.records.good_flags.Statement.{statement}
 use Rattle.rules.proofs.records.good_flags.Tie as tie

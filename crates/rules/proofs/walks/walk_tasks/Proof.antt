@@ -76,12 +76,13 @@ loop-less c = omega arith
 
 -- src/walks.rt:52:5
 loop-again : tie.Need-loop-again Inv-loop μ-loop
-loop-again c = (
-  omega arith,
-  refl,
-  walk-goes-on _ _ _ (c .before .before .before .before .before .before .before .before .before .before .args .z .messages) _ _ (c .before .before .before .before .before .before .loop .seen) (c .before .before .before .before .before .before .loop .inv .2) (omega arith) (c .before .before .before .before .if1 .left)
-      (sym (c .before .turn .given .1) ∙ c .before .before .before .task-turn .ensures),
-)
+loop-again c =
+    let l = c .before .before .before .before .before .before in
+    let e =
+    walk-goes-on _ _ _ (l .before .before .before .before .args .z .messages) _ _ (l .loop .seen) (l .loop .inv .2)
+    (omega arith) (c .before .before .before .before .if1 .left)
+    (sym (c .before .turn .given .1) ∙ c .before .before .before .task-turn .ensures) in
+    (omega arith, refl, e)
 
 -- src/walks.rt:65:9
 returns-3 : tie.Need-returns-3 Inv-loop μ-loop

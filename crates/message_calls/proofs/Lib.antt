@@ -1,0 +1,5 @@
+pub mod Steps
+pub mod Placing
+pub mod Sending
+pub mod Receiving
+pub mod Claiming
