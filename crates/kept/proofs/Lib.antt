@@ -11,3 +11,5 @@ pub mod Placing
 pub mod Taking
 pub mod Dispatching
 pub mod Theorems
+pub mod Framing
+pub mod Framed

@@ -6,12 +6,19 @@ use libc::STDIN_FILENO;
 use libc::STDOUT_FILENO;
 use paper::answer::Answer;
 use paper::answer::Refusal;
+use station::asked::Asked;
+use station::asked::call_of_kind;
 use station::pack::refusal_number;
 
 fn wide(x: u8) -> u16
     ensures { λ res. ⌜ res < 256 ⌝ }
 {
     x as u16
+}
+
+// A word from its low byte and its high byte.
+fn word(low: u8, high: u8) -> u16 {
+    wide(low) + 256 * wide(high)
 }
 
 fn print_number(n: u16) {
@@ -78,21 +85,30 @@ fn copy(from: &[u8], to: &mut [u8]) {
     }
 }
 
-fn answer_to(kind: u8, board: &mut [u8]) -> Answer {
-    if kind == 20 {
-        return station::fresh(board);
+fn answer_to(kind: u8, asked: Asked, board: &mut [u8]) {
+    if kind == 0 {
+        print_answer(station::check(board));
+        return;
     }
-    station::check(board)
+    if kind == 20 {
+        print_answer(station::fresh(board));
+        return;
+    }
+    let Asked::Made(call) = asked else {
+        print_text(b"255 0 0 0");
+        return;
+    };
+    print_answer(station::step(board, call));
 }
 
 // The board read, the call made on a copy of it, and its line; false where the board is cut short.
-fn answer_case(kind: u8, before: &mut [u8], after: &mut [u8]) -> bool {
+fn answer_case(kind: u8, asked: Asked, before: &mut [u8], after: &mut [u8]) -> bool {
     if io::read_full(STDIN_FILENO, before) < before.len() {
         print_text(b"error: the last board is cut short\n");
         return false;
     }
     copy(before, after);
-    print_answer(answer_to(kind, after));
+    answer_to(kind, asked, after);
     print_changes(before, after);
     print_text(b"\n");
     true
@@ -109,10 +125,18 @@ fn one_case() -> bool {
         print_text(b"error: the last call is cut short\n");
         return false;
     }
-    let n = (wide(head[0]) as usize) + 256 * (wide(head[1]) as usize);
+    let n = word(head[0], head[1]) as usize;
+    let asked = call_of_kind(
+        head[2],
+        word(head[3], head[4]),
+        word(head[5], head[6]),
+        word(head[7], head[8]),
+        head[9],
+        head[10],
+    );
     let mut before = io::large_buffer();
     let mut after = io::large_buffer();
-    answer_case(head[2], &mut before[..n], &mut after[..n])
+    answer_case(head[2], asked, &mut before[..n], &mut after[..n])
 }
 
 fn main() {

@@ -9,7 +9,6 @@ use native.Mathlib.Decide.{ℕ-discrete}
 use lib.ListN.{length, getD, set, replicate, length-replicate, getD-replicate}
 use lib.Seq.{ext-getD, getD-set-same, getD-set-other}
 use lib.Dec.{eqb}
-use borrow.Author.Tests.{eq-eqb, ne-eqb}
 use Rattle.board.specs.declared.numbers.Size.{Size}
 use Rattle.board.specs.declared.numbers.TaskMeant.the-variants.{Task, NoTask}
 use Rattle.board.specs.Numbers.{small, outside, taskNo, taskMeant}
@@ -26,13 +25,13 @@ use Rattle.kept.proofs.Reading.{present-numbered, runner-says}
 use Rattle.station.specs.Meant.{numberMeant}
 
 -- an outcome ends as it says
-ends : (a : Answer) (l : List ℕ) (o : Outcome) → o ≡ record { answer = a; after = l } → Ends a l o
+pub ends : (a : Answer) (l : List ℕ) (o : Outcome) → o ≡ record { answer = a; after = l } → Ends a l o
 ends a l o e = record { answers = sym (ap (λ (x : Outcome). x .answer) e); leaves = sym (ap (λ (x : Outcome). x .after) e) }
 
 -- ---- the length
-pub fresh-refused : (l : List ℕ) → (length l ≡ 1476 → ⊥) → Ends (Refused WrongLength) l (fresh small l)
+pub fresh-refused : (l : List ℕ) → eqb (length l) 1476 ≡ false → Ends (Refused WrongLength) l (fresh small l)
 fresh-refused l h =
-    ends _ l (fresh small l) (ap (λ (t : Bool). judge l (lowest (test WrongLength (not t) ∷ [])) (accepted 0 0 0 (blank small))) (ne-eqb (length l) 1476 h))
+    ends _ l (fresh small l) (ap (λ (t : Bool). judge l (lowest (test WrongLength (not t) ∷ [])) (accepted 0 0 0 (blank small))) h)
 
 -- ---- zeros
 pub zeros-more : (l : List ℕ) (i : ℕ) → i < length l → ((j : ℕ) → j < i → getD l j 0 ≡ 0) → (j : ℕ) → j < i + 1 → getD (set l i 0) j 0 ≡ 0
@@ -47,11 +46,11 @@ zeros-all l e z =
     ext-getD 0 l (replicate 1476 0) (e ∙ sym (length-replicate {A = ℕ} 1476 0))
     (λ i h. z i (omega arith) ∙ sym (getD-replicate {A = ℕ} 1476 i 0 0 (omega arith)))
 
-pub fresh-accepted : (l m : List ℕ) → length l ≡ 1476 → length m ≡ 1476 → ((j : ℕ) → j < 1476 → getD m j 0 ≡ 0)
+pub fresh-accepted : (l m : List ℕ) → eqb (length l) 1476 ≡ true → length m ≡ 1476 → ((j : ℕ) → j < 1476 → getD m j 0 ≡ 0)
     → Ends (Accepted 0 0 0) m (fresh small l)
 fresh-accepted l m e f z =
     ends _ m (fresh small l)
-    (ap (λ (t : Bool). judge l (lowest (test WrongLength (not t) ∷ [])) (accepted 0 0 0 (blank small))) (eq-eqb (length l) 1476 e)
+    (ap (λ (t : Bool). judge l (lowest (test WrongLength (not t) ∷ [])) (accepted 0 0 0 (blank small))) e
     ∙ ap (accepted 0 0 0) (sym (zeros-all m f z)))
 
 -- ---- checking
@@ -59,11 +58,11 @@ abbrev checked : List ℕ → Bool → Bool → Outcome
 checked l t u =
     judge l (lowest (test WrongLength (not t) ∷ test RuleBroken (not u) ∷ [])) (accepted 0 (running small (boardOf small l)) 0 l)
 
-pub check-length : (l : List ℕ) → (length l ≡ 1476 → ⊥) → Ends (Refused WrongLength) l (check small l)
-check-length l h = ends _ l (check small l) (ap (λ (t : Bool). checked l t (passes small (boardOf small l))) (ne-eqb (length l) 1476 h))
+pub check-length : (l : List ℕ) → eqb (length l) 1476 ≡ false → Ends (Refused WrongLength) l (check small l)
+check-length l h = ends _ l (check small l) (ap (λ (t : Bool). checked l t (passes small (boardOf small l))) h)
 
-pub check-broken : (l : List ℕ) → length l ≡ 1476 → passes small (boardOf small l) ≡ false → Ends (Refused RuleBroken) l (check small l)
-check-broken l e p = ends _ l (check small l) (λ i. checked l (eq-eqb (length l) 1476 e i) (p i))
+pub check-broken : (l : List ℕ) → eqb (length l) 1476 ≡ true → passes small (boardOf small l) ≡ false → Ends (Refused RuleBroken) l (check small l)
+check-broken l e p = ends _ l (check small l) (λ i. checked l (e i) (p i))
 
 -- the number of the running task
 meant-number : (z : Size) (r : ℕ) → (r ≡ 0 → ⊥) ⊎ (r ≡ 0) → ((r ≡ 0 → ⊥) → outside (z .tasks) r ≡ false) → numberMeant (taskMeant z r) ≡ r
@@ -85,8 +84,8 @@ runner-number z l = meant-number z r (go (ℕ-discrete r 0)) within
         let p = present-numbered (boardOf z l) r (runner-says z (boardOf z l) n .0) in
         within-outside (z .tasks) r (p .0) (let e = length-tasks z l in omega (arith, p .1))
 
-pub check-passed : (l : List ℕ) (n : ℕ) → length l ≡ 1476 → passes small (boardOf small l) ≡ true
+pub check-passed : (l : List ℕ) (n : ℕ) → eqb (length l) 1476 ≡ true → passes small (boardOf small l) ≡ true
     → n ≡ numberMeant (taskMeant small (running small (boardOf small l))) → Ends (Accepted 0 n 0) l (check small l)
 check-passed l n e p h =
     ends _ l (check small l)
-    ((λ i. checked l (eq-eqb (length l) 1476 e i) (p i)) ∙ ap (λ (r : ℕ). accepted 0 r 0 l) (sym (h ∙ runner-number small l)))
+    ((λ i. checked l (e i) (p i)) ∙ ap (λ (r : ℕ). accepted 0 r 0 l) (sym (h ∙ runner-number small l)))

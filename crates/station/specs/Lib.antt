@@ -1,3 +1,4 @@
 pub mod Meant
 pub mod Packed
 pub mod Asked
+pub mod Called

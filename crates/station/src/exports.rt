@@ -4,6 +4,10 @@ ghost use Rattle.board.specs.Numbers.{small};
 ghost use Rattle.paper.specs.Answers.{handed};
 ghost use Rattle.paper.specs.Step.{Outcome, fresh, check};
 ghost use Rattle.station.specs.Packed.{packed};
+ghost use Rattle.station.specs.Asked.{askedOf};
+ghost use Rattle.station.specs.Called.{wordFor, leftFor};
+use crate::asked::Asked;
+use crate::asked::call_of_kind;
 use crate::pack::pack;
 
 #[no_mangle]
@@ -18,4 +22,23 @@ pub extern "C" fn station_check(board: &[u8]) -> u64
     ensures { λ res. ⌜ res ≡ packed (handed (check small (now (board .entry)) .answer)) ⌝ }
 {
     pack(crate::check(board))
+}
+
+// A kind that is no call is told at once, with a number that no refusal has.
+#[no_mangle]
+pub extern "C" fn station_call(
+    board: &mut [u8],
+    kind: u8,
+    a: u16,
+    b: u16,
+    c: u16,
+    stat: u8,
+    prio: u8,
+) -> u64
+    ensures { λ res. ⌜ (res ≡ wordFor (now (board .entry)) (askedOf kind a b c stat prio)) × (now (board .exit) ≡ leftFor (now (board .entry)) (askedOf kind a b c stat prio)) ⌝ }
+{
+    let Asked::Made(call) = call_of_kind(kind, a, b, c, stat, prio) else {
+        return 255;
+    };
+    pack(crate::step(board, call))
 }

@@ -1,17 +1,22 @@
-// PROMISE. The station's board for its callers: making a fresh board and checking one, on lent bytes of any length and content. Read for
-// the contracts: each says the answer and every byte afterwards by one definition of document 01 (paper, Step).
+// PROMISE. The station's board for its callers: making a fresh board, checking one, and the nineteen calls, on lent bytes of any length and
+// content. Read for the contracts: each says the answer and every byte afterwards by one definition of document 01 (paper, Step).
 pub mod asked;
 pub mod exports;
 pub mod pack;
 
 ghost use mathlib.Core.Path.{_≡_};
 ghost use Rattle.board.specs.Numbers.{small};
-ghost use Rattle.paper.specs.Step.{Ends, fresh, check};
+ghost use lib.ListN.{length};
+ghost use lib.Dec.{eqb};
+ghost use Rattle.board.specs.Board.{total};
+ghost use Rattle.paper.specs.Step.{Ends, effect, fresh, check};
 ghost use Rattle.station.specs.Meant.{numberMeant};
 use board::numbers::Size;
 use board::numbers::TaskMeant;
+use dispatch::make_call;
 use paper::answer::Answer;
 use paper::answer::Refusal;
+use paper::call::Call;
 use rules::passes;
 use rules::who::running;
 
@@ -19,7 +24,7 @@ use rules::who::running;
 pub fn fresh(b: &mut [u8]) -> Answer
     ensures { λ res. ⌜ Ends res (now (b .exit)) (fresh small (now (b .entry))) ⌝ }
 {
-    if b.len() != 1476 {
+    if !sized(b) {
         return Answer::Refused(Refusal::WrongLength);
     }
     let mut i: usize = 0;
@@ -38,7 +43,7 @@ pub fn fresh(b: &mut [u8]) -> Answer
 pub fn check(b: &[u8]) -> Answer
     ensures { λ res. ⌜ Ends res (now (b .entry)) (check small (now (b .entry))) ⌝ }
 {
-    if b.len() != 1476 {
+    if !sized(b) {
         return Answer::Refused(Refusal::WrongLength);
     }
     let z = Size::SMALL;
@@ -51,6 +56,27 @@ pub fn check(b: &[u8]) -> Answer
         running: number_of(who),
         delivered: 0,
     }
+}
+
+// A call: document 01's effect of it on these bytes, whatever they are.
+pub fn step(b: &mut [u8], call: Call) -> Answer
+    ensures { λ res. ⌜ Ends res (now (b .exit)) (effect small (now (b .entry)) call) ⌝ }
+{
+    if !sized(b) {
+        return Answer::Refused(Refusal::WrongLength);
+    }
+    let z = Size::SMALL;
+    if !passes(z, b) {
+        return Answer::Refused(Refusal::RuleBroken);
+    }
+    make_call(z, b, call)
+}
+
+// A board is exactly so many bytes.
+fn sized(b: &[u8]) -> bool
+    ensures { λ res. ⌜ res ≡ eqb (length (now (b .entry))) (total small) ⌝ }
+{
+    b.len() == 1476
 }
 
 // The number of the task meant, 0 for none.

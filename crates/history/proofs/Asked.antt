@@ -1,0 +1,143 @@
+-- What is asked of a board and of its machine: who runs, who is found, the first message of a task, the lowest free one, who
+-- holds what; and where the machine's entries are on the board.
+-- Assumes nothing.
+use mathlib.Core.Path.{_≡_, refl, sym, ap, _∙_, subst}
+use mathlib.Core.Bool.{Bool, true, false, cond, not, true≢false}
+use mathlib.Core.List.{List, [], _∷_}
+use Prim.Native.Nat.{ℕ, suc, _+_}
+use native.Mathlib.Omega.{arith}
+use lib.Dec.{eqb}
+use lib.ListN.{length, getD}
+use borrow.Author.Tests.{eq-eqb}
+use Rattle.links.specs.Queue.{firstOf, consIf, which, firstWith}
+use Rattle.links.proofs.Chains.{chain-first}
+use Rattle.board.specs.declared.numbers.Size.{Size}
+use Rattle.board.specs.declared.places.Place.{Place}
+use Rattle.board.specs.declared.places.Place.the-variants.{Free, HeldBy, QueuedAt, Nowhere}
+use Rattle.board.specs.Numbers.{taskNo}
+use Rattle.board.specs.Places.{isFree, isHeldBy, isQueuedAt}
+use Rattle.board.specs.Board.{Board, task, place}
+use Rattle.paper.specs.Rules.{present, nextMessage, order, queue, ready, running}
+use Rattle.paper.specs.Effects.{lowestFree, find}
+use Rattle.paper.specs.Refusals.{holdsOne}
+use Rattle.linked.specs.Linked.{Numbered}
+use Rattle.linked.specs.Sound.{Kept}
+use Rattle.kept.specs.Stands as kept
+use Rattle.kept.specs.Claims.{Sizes}
+use Rattle.kept.proofs.Reading.{order-walked, queue-walked, placed-numbered}
+use Rattle.history.specs.Ranking.{Entry, keep, Stands}
+use Rattle.history.specs.Machine as plain
+use Rattle.history.specs.Machine.{Whose, lowestFrom}
+use Rattle.history.specs.Claims.{Says}
+use Rattle.history.proofs.Entries.{once-keep, stands-keep}
+use Rattle.history.proofs.Names.{names-foremost, names-leads, in-names}
+use Rattle.history.proofs.Listed.{isAt}
+use Rattle.history.proofs.Named.{Named}
+use Rattle.history.proofs.Machines.{whoseOf, plainOf}
+
+-- ---- the lowest number that passes
+-- counted from m on it is the first of those that pass
+which-lowest : {A : Type 0} (none : A) (f : A → Bool) (g : ℕ → Bool) (m : ℕ) (r : List A)
+    → ((i j : ℕ) → j ≡ m + i → g j ≡ f (getD r i none)) → lowestFrom g m (length r) ≡ firstOf (which f m r)
+which-lowest none f g m [] h = refl
+which-lowest none f g m (x ∷ r) h =
+    ap (λ (t : Bool). cond t m (lowestFrom g (suc m) (length r))) (h 0 m (omega arith))
+    ∙ step (f x) (which-lowest none f g (suc m) r (λ i j e. h (suc i) j (omega arith)))
+  where
+    step : (t : Bool) → lowestFrom g (suc m) (length r) ≡ firstOf (which f (suc m) r)
+        → cond t m (lowestFrom g (suc m) (length r)) ≡ firstOf (consIf t m (which f (suc m) r))
+    step true e = refl
+    step false e = e
+
+-- ---- a place and whose it is
+-- free
+free-alike : (x : Place) → Says x (whoseOf x) → plain.isFree (whoseOf x) ≡ isFree x
+free-alike Free h = refl
+free-alike (HeldBy k) h = refl
+free-alike (QueuedAt k) h = refl
+free-alike (Nowhere p) h = absurd h
+
+-- held by c; a message that is nowhere is held by none
+pub held-alike : (c : ℕ) (x : Place) → plain.isHeld c (whoseOf x) ≡ isHeldBy c x
+held-alike c Free = refl
+held-alike c (HeldBy k) = refl
+held-alike c (QueuedAt k) = refl
+held-alike c (Nowhere p) = refl
+
+-- queued at r
+pub queued-alike : (r : ℕ) (x : Place) → plain.isQueued r (whoseOf x) ≡ isQueuedAt r x
+queued-alike r Free = refl
+queued-alike r (HeldBy k) = refl
+queued-alike r (QueuedAt k) = refl
+queued-alike r (Nowhere p) = refl
+
+-- ---- places of a board that stands
+module _ (z : Size) (b : Board) (q : List ℕ) (f : ℕ → List ℕ) (h : kept.Stands z b q f) where
+  -- no message is nowhere
+  pub places-say : (m : ℕ) → Says (place b m) (whoseOf (place b m))
+  places-say m = step (place b m) refl
+    where
+      step : (x : Place) → place b m ≡ x → Says x (whoseOf x)
+      step Free e = refl
+      step (HeldBy k) e = refl
+      step (QueuedAt k) e = refl
+      step (Nowhere y) e =
+          let n = placed-numbered b m (λ d. true≢false (sym (ap isFree (sym e ∙ d)))) in
+          subst (Kept z b m) e (h .kept m (rw (h .fits .places) at n))
+
+  lowest-place : (g : Whose → Bool) (t : Place → Bool) → ((m : ℕ) → g (whoseOf (place b m)) ≡ t (place b m))
+      → lowestFrom (λ m. g (whoseOf (place b m))) 1 (z .messages) ≡ firstOf (which t 1 (b .places))
+  lowest-place g t e =
+      ap (lowestFrom (λ m. g (whoseOf (place b m))) 1) (sym (h .fits .places))
+      ∙ which-lowest Free t (λ m. g (whoseOf (place b m))) 1 (b .places)
+      (λ i j d. let u : j ≡ suc i = omega arith in ap (λ (m : ℕ). g (whoseOf (place b m))) u ∙ e (suc i))
+
+  -- which is free
+  pub asked-free : (l s : List Entry) (n : ℕ) → plain.lowestFree z (plainOf b l s n) ≡ lowestFree b
+  asked-free l s n = lowest-place plain.isFree isFree (λ m. free-alike (place b m) (places-say m))
+
+  -- whether task k holds one
+  pub asked-holds : (l s : List Entry) (n k : ℕ) → plain.holdsOne z (plainOf b l s n) k ≡ holdsOne b k
+  asked-holds l s n k =
+      ap (λ (m : ℕ). not (eqb m 0)) (lowest-place (plain.isHeld k) (isHeldBy k) (λ m. held-alike k (place b m)))
+
+-- ---- a board that stands and its machine
+module _ (z : Size) (b : Board) (q : List ℕ) (f : ℕ → List ℕ) (a : Sizes z) (h : kept.Stands z b q f)
+    (l s : List Entry) (n : ℕ) (w : Named z (plainOf b l s n) q f) where
+  -- who runs
+  pub asked-running : plain.running (plainOf b l s n) ≡ running z b
+  asked-running =
+      names-foremost l q _ (ready b) (w .tasks .once) (λ x i. refl) (w .order)
+      ∙ ap (firstWith (ready b)) (sym (order-walked z b q f h (a .limit)))
+
+  -- who is found
+  pub asked-find : (name : ℕ) → plain.find (plainOf b l s n) name ≡ find z b name
+  asked-find name =
+      names-foremost l q _ (λ k. eqb (task b k .name) name) (w .tasks .once) (λ x i. refl) (w .order)
+      ∙ ap (firstWith (λ k. eqb (task b k .name) name)) (sym (order-walked z b q f h (a .limit)))
+
+  module _ (k : ℕ) (d : Numbered (z .tasks) k) where
+    -- the first message of task k
+    pub asked-first : plain.first (plainOf b l s n) k ≡ firstOf (f k)
+    asked-first = names-leads (keep (isAt k) s) (f k) (once-keep (isAt k) s (w .messages .once)) (w .queues k d)
+
+    -- which MPTR is
+    pub first-mptr : plain.first (plainOf b l s n) k ≡ task b k .mptr
+    first-mptr = asked-first ∙ sym (chain-first (nextMessage b) (task b k .mptr) (f k) (h .linked .messages k d .chain))
+
+    -- and the first that is walked
+    pub first-walked : plain.first (plainOf b l s n) k ≡ firstOf (queue z b k)
+    first-walked = asked-first ∙ ap firstOf (sym (queue-walked z b q f h k d))
+
+  -- ---- where the entries stand
+  -- one installed is present
+  pub entry-present : (x : Entry) → Stands x l → present b (x .id) ≡ true
+  entry-present x i = h .linked .tasks .exact (x .id) .0 (in-names l q (x .id) (w .order) .1 (x, i, refl))
+
+  -- one placed is queued there
+  pub entry-queued : (x : Entry) → Stands x s → place b (x .id) ≡ QueuedAt (taskNo (x .at))
+  entry-queued x i =
+      let d = w .homes x i in
+      h .linked .messages (x .at) d .exact (x .id) .0
+      (in-names (keep (isAt (x .at)) s) (f (x .at)) (x .id) (w .queues (x .at) d) .1
+      (x, stands-keep (isAt (x .at)) x s .1 (i, eq-eqb (x .at) (x .at) refl), refl))

@@ -1,0 +1,112 @@
+-- Dispatch on a board that stands and on its machine: the same task runs, and is handed the same message if it is due one.
+-- Assumes nothing.
+use mathlib.Core.Path.{_≡_, refl, sym, ap, _∙_}
+use mathlib.Core.Bool.{Bool, true, false, true≢false}
+use mathlib.Core.List.{List}
+use Prim.Native.Nat.{ℕ, zero, suc}
+use lib.ListN.{length}
+use borrow.Author.Tests.{ne-eqb}
+use Rattle.links.specs.Queue.{firstOf, restOf}
+use Rattle.board.specs.declared.numbers.Size.{Size}
+use Rattle.board.specs.Status.{MHBS, has}
+use Rattle.board.specs.Board.{Board, bytesOf, task}
+use Rattle.paper.specs.declared.answer.Answer.the-variants.{Accepted}
+use Rattle.paper.specs.Rules.{present, queue, emptyQueue, running}
+use Rattle.paper.specs.Changes.{clears, takeFirst}
+use Rattle.paper.specs.Step as paper
+use Rattle.linked.specs.Linked.{Numbered}
+use Rattle.kept.specs.Stands.{Stands}
+use Rattle.kept.specs.After.{changed}
+use Rattle.kept.specs.Claims.{Sizes}
+use Rattle.kept.proofs.Reading.{runner-says}
+use Rattle.kept.proofs.Waiting.{task-numbered}
+use Rattle.kept.proofs.Taking.{due-queued, deliver-stands}
+use Rattle.history.specs.Ranking.{Entry}
+use Rattle.history.specs.Machine as plain
+use Rattle.history.specs.Machine.{Plain, Result}
+use Rattle.history.proofs.Named.{Named, named-flagged}
+use Rattle.history.proofs.Machines.{plainOf, plain-clears, length-tasks}
+use Rattle.history.proofs.Asked.{asked-running, first-mptr, first-walked}
+use Rattle.history.proofs.Same.{Same, same-at, same-holds}
+use Rattle.history.proofs.Taken.{take-same}
+
+-- ---- dispatch
+-- the same answer, and the bytes of a board that stands and is the machine's
+pub record Dispatched (z : Size) (o : paper.Outcome) (r : Result) : Type 0 where
+  pub answers : o .answer ≡ r .answer
+  pub board : Board
+  pub order : List ℕ
+  pub queues : ℕ → List ℕ
+  pub leaves : o .after ≡ bytesOf board
+  pub stands : Stands z board order queues
+  pub same : Same z board order queues (r .plain)
+
+-- a bit cleared
+clears-same : (z : Size) (b : Board) (q : List ℕ) (f : ℕ → List ℕ) (p : Plain) (c bit : ℕ) → Numbered (length (b .tasks)) c
+    → Same z b q f p → Same z (clears b c bit) q f (plain.clears p c bit)
+clears-same z b q f p c bit d t =
+    same-holds z b q f p (λ (x : Plain). Same z (clears b c bit) q f (plain.clears x c bit)) t
+    (λ l s n w. same-at l s n (plain-clears l s n b c d bit) (named-flagged z (plainOf b l s n) q f w c _))
+
+module _ (z : Size) (b : Board) (q : List ℕ) (f : ℕ → List ℕ) (a : Sizes z) (h : Stands z b q f)
+    (l s : List Entry) (n : ℕ) (w : Named z (plainOf b l s n) q f) (bytes : List ℕ) (old : Plain) (v : ℕ) where
+  abbrev c : ℕ
+  c = running z b
+
+  abbrev p : Plain
+  p = plainOf b l s n
+
+  -- the running task is due a message
+  module _ (due : has (task b c .stat) MHBS ≡ true) where
+    runner : present b c ≡ true
+    runner = runner-says z b (λ e. true≢false (sym due ∙ ap (λ (k : ℕ). has (task b k .stat) MHBS) e)) .0
+
+    numbered : Numbered (z .tasks) c
+    numbered = task-numbered z b q f h c runner
+
+    abbrev after : Board
+    after = clears (takeFirst z b c) c MHBS
+
+    abbrev left : ℕ → List ℕ
+    left = changed f c (restOf (f c))
+
+    -- it has one
+    delivers : (m : ℕ) → plain.first p c ≡ m
+        → Dispatched z (paper.accepted v c (firstOf (queue z b c)) (bytesOf after)) (plain.deliver old (plain.done v p) c m)
+    delivers zero e = absurd (due-queued z b q f a h c runner due (sym (first-mptr z b q f a h l s n w c numbered) ∙ e))
+    delivers (suc m) e = record {
+      answers = ap (λ (x : ℕ). Accepted v c x) (sym (first-walked z b q f a h l s n w c numbered) ∙ e);
+      board = after;
+      order = q;
+      queues = left;
+      leaves = refl;
+      stands = deliver-stands z b q f a h c runner due;
+      same = clears-same z (takeFirst z b c) q left (plain.take p c (suc m)) c MHBS
+          (rw (length-tasks b c (restOf (queue z b c)), h .fits .tasks) numbered)
+          (take-same z b q f a h l s n w c numbered (suc m) e);
+    }
+
+    -- 15 is not given
+    queued : emptyQueue b c ≡ false
+    queued = ne-eqb (task b c .mptr) 0 (due-queued z b q f a h c runner due)
+
+    delivered : Dispatched z (paper.deliver z bytes (paper.done v b) c) (plain.deliver old (plain.done v p) c (plain.first p c))
+    delivered = rw queued (delivers (plain.first p c) refl)
+
+  -- it is handed its first message, if it is due one
+  pub dispatch-alike : let p = plainOf b l s n in
+      Dispatched z (paper.dispatch z bytes (paper.done v b)) (plain.dispatch old (plain.done v p))
+  dispatch-alike = step (has (task b c .stat) MHBS) refl
+    where
+      step : (t : Bool) → has (task b c .stat) MHBS ≡ t
+          → Dispatched z (paper.dispatch z bytes (paper.done v b)) (plain.dispatch old (plain.done v p))
+      step true e = rw (asked-running z b q f a h l s n w, e) (delivered e)
+      step false e = rw (asked-running z b q f a h l s n w, e) (record {
+        answers = refl;
+        board = b;
+        order = q;
+        queues = f;
+        leaves = refl;
+        stands = h;
+        same = same-at l s n refl w;
+      })

@@ -1,0 +1,184 @@
+-- The fresh board: bytes of zeros read as records of zeros, so it passes, and agrees with the machine at the start.
+-- Assumes nothing.
+use mathlib.Core.Path.{_≡_, refl, sym, ap, ap₂, _∙_, subst}
+use mathlib.Core.Logic.{inl}
+use mathlib.Core.Bool.{true≢false}
+use mathlib.Core.List.{List, [], _∷_}
+use Prim.Native.Nat.{ℕ, zero, suc, _+_, _*_}
+use lib.Dec.{lit<}
+use lib.ListN.{getD, take, drop, replicate, length-replicate}
+use Rattle.links.specs.Chain.{All}
+use Rattle.board.specs.declared.numbers.Size.{Size}
+use Rattle.board.specs.declared.records.Task.{Task}
+use Rattle.board.specs.declared.places.Place.the-variants as places
+use Rattle.board.specs.Status.{MHBS, has, stored}
+use Rattle.board.specs.Records.{wordAt, taskOf, noTask, messageOf, noMessage}
+use Rattle.board.specs.Places.{placeOf, placeIn}
+use Rattle.board.specs.Board.{Area, Board, taskArea, messageArea, placeArea, total, cut, pieces, boardOf, nth, task, message, place}
+use Rattle.board.proofs.Numbered.{nth-map}
+use Rattle.paper.specs.Rules.{isThere, running}
+use Rattle.paper.specs.Step.{blank}
+use Rattle.linked.specs.Sound.{Kept}
+use Rattle.kept.specs.Stands.{Byte, Stands}
+use Rattle.kept.specs.Claims.{Sizes, Bytes}
+use Rattle.kept.proofs.Flagging.{Flagged, flags-ready}
+use Rattle.kept.proofs.Holding.{isQueued}
+use Rattle.kept.proofs.Fitting.{fits-board}
+use Rattle.kept.proofs.Theorems.{stands-passes}
+use Rattle.history.specs.Ranking.{Names}
+use Rattle.history.specs.Machine.{start}
+use Rattle.history.specs.Claims.{sheetOf, blockOf}
+use Rattle.history.proofs.Rolls.{Roll}
+use Rattle.history.proofs.Named.{Named}
+use Rattle.history.proofs.Machines.{whoseOf, plainOf}
+use Rattle.history.proofs.Steps.{Agreeing}
+
+-- ---- lists of zeros
+abbrev Zeros : List ℕ → Type 0
+Zeros l = All (λ x. x ≡ 0) l
+
+zeros-replicate : (n : ℕ) → Zeros (replicate n 0)
+zeros-replicate zero = tt
+zeros-replicate (suc n) = (refl, zeros-replicate n)
+
+zeros-read : (l : List ℕ) → Zeros l → (i : ℕ) → getD l i 0 ≡ 0
+zeros-read [] h i = refl
+zeros-read (x ∷ l) h zero = h .0
+zeros-read (x ∷ l) h (suc i) = zeros-read l (h .1) i
+
+zeros-take : (w : ℕ) (l : List ℕ) → Zeros l → Zeros (take w l)
+zeros-take zero l h = tt
+zeros-take (suc w) [] h = tt
+zeros-take (suc w) (x ∷ l) h = (h .0, zeros-take w l (h .1))
+
+zeros-drop : (w : ℕ) (l : List ℕ) → Zeros l → Zeros (drop w l)
+zeros-drop zero l h = h
+zeros-drop (suc w) [] h = tt
+zeros-drop (suc w) (x ∷ l) h = zeros-drop w l (h .1)
+
+zeros-cut : (n w : ℕ) (l : List ℕ) → Zeros l → (i : ℕ) → Zeros (getD (cut n w l) i [])
+zeros-cut zero w l h i = tt
+zeros-cut (suc n) w l h zero = zeros-take w l h
+zeros-cut (suc n) w l h (suc i) = zeros-cut n w (drop w l) (zeros-drop w l h) i
+
+zeros-piece : (a : Area) (l : List ℕ) → Zeros l → (k : ℕ) → Zeros (nth [] (pieces a l) k)
+zeros-piece a l h zero = tt
+zeros-piece a l h (suc i) = zeros-cut (a .count) (a .stride) (drop (a .base) l) (zeros-drop (a .base) l h) i
+
+-- ---- records of zeros
+module _ (p : List ℕ) (h : Zeros p) where
+  zero-word : (i : ℕ) → wordAt p i ≡ 0
+  zero-word i = ap₂ (λ (x y : ℕ). x + 256 * y) (zeros-read p h i) (zeros-read p h (i + 1))
+
+  zero-task : taskOf p ≡ noTask
+  zero-task = λ i. record {
+    stat = stored (zeros-read p h 0 i);
+    prio = zeros-read p h 1 i;
+    link = zero-word 2 i;
+    mptr = zero-word 4 i;
+    sptr = zero-word 6 i;
+    name = zero-word 8 i;
+  }
+
+  zero-message : messageOf p ≡ noMessage
+  zero-message = λ i. record {
+    stat = zeros-read p h 0 i;
+    prio = zeros-read p h 1 i;
+    link = zero-word 2 i;
+    rptr = zero-word 4 i;
+    sptr = zero-word 6 i;
+  }
+
+  zero-place : (z : Size) → placeIn z p ≡ places.Free
+  zero-place z = ap (placeOf z) (zeros-read p h 0)
+
+-- ---- the fresh board
+module _ (z : Size) where
+  abbrev b : Board
+  b = boardOf z (blank z)
+
+  zeros : Zeros (blank z)
+  zeros = zeros-replicate (total z)
+
+  -- no task, no message, all free
+  fresh-task : (k : ℕ) → task b k ≡ noTask
+  fresh-task k =
+      let l = pieces (taskArea z) (blank z) in
+      nth-map taskOf [] noTask l k refl ∙ zero-task (nth [] l k) (zeros-piece (taskArea z) (blank z) zeros k)
+
+  fresh-message : (m : ℕ) → message b m ≡ noMessage
+  fresh-message m =
+      let l = pieces (messageArea z) (blank z) in
+      nth-map messageOf [] noMessage l m refl ∙ zero-message (nth [] l m) (zeros-piece (messageArea z) (blank z) zeros m)
+
+  fresh-place : (m : ℕ) → place b m ≡ places.Free
+  fresh-place m =
+      let l = pieces (placeArea z) (blank z) in
+      nth-map (placeIn z) [] places.Free l m refl ∙ zero-place (nth [] l m) (zeros-piece (placeArea z) (blank z) zeros m) z
+
+  fresh-bytes : Bytes z (blank z)
+  fresh-bytes = record {
+    long = length-replicate (total z) 0;
+    bytes = λ i. subst Byte (sym (zeros-read (blank z) zeros i)) (lit< tt);
+  }
+
+  fresh-stands : Stands z b [] (λ k. [])
+  fresh-stands = record {
+    fits = fits-board z (blank z) fresh-bytes;
+    zeros = zeros-take 3 (drop 1 (blank z)) (zeros-drop 1 (blank z) zeros);
+    records = λ k d. inl (fresh-task k);
+    linked = record {
+      tasks = record {
+        chain = zeros-read (blank z) zeros 0;
+        exact = λ y. ((λ i. absurd i), λ e. true≢false (sym e ∙ ap isThere (fresh-task y)));
+        sorted = tt;
+      };
+      messages = λ k d. record {
+        chain = ap (λ (t : Task). t .mptr) (fresh-task k);
+        exact = λ y. ((λ i. absurd i), λ e. true≢false (sym (ap isQueued e) ∙ ap isQueued (fresh-place y)));
+        sorted = tt;
+      };
+    };
+    kept = λ m d. subst (Kept z b m) (sym (fresh-place m)) (fresh-message m);
+    flags = λ k d.
+        subst Flagged (sym (fresh-task k)) (flags-ready (stored 0) (0 ≡ 0) refl refl (λ e. absurd (true≢false (sym e))));
+  }
+
+  fresh-plain : plainOf b [] [] 0 ≡ start
+  fresh-plain = λ i. record {
+    sheets = λ k. sheetOf (fresh-task k i);
+    blocks = λ m. blockOf (fresh-message m i);
+    whose = λ m. whoseOf (fresh-place m i);
+    installs = [];
+    placements = [];
+    clock = 0;
+  }
+
+  -- none is installed or placed
+  no-names : Names [] []
+  no-names = record { list = []; ranking = record { same = λ x. ((λ i. i), λ i. i); order = tt }; names = refl }
+
+  no-roll : (number : ℕ → ℕ) → Roll number 0 []
+  no-roll number =
+      record { once = tt; past = λ x i. absurd i; numbers = λ x i. absurd i; single = λ x y i. absurd i }
+
+  start-named : Named z start [] (λ k. [])
+  start-named = record {
+    tasks = no-roll _;
+    messages = no-roll _;
+    homes = λ x i. absurd i;
+    order = no-names;
+    queues = λ k d. no-names;
+  }
+
+  -- it agrees with the machine at the start
+  pub fresh-agrees : Sizes z → Agreeing z (blank z) start
+  fresh-agrees a = record {
+    bytes = fresh-bytes;
+    sound = stands-passes z b a (fresh-stands .fits) [] (λ k. []) fresh-stands
+        (ap (λ (t : Task). has (t .stat) MHBS) (fresh-task (running z b)));
+    order = [];
+    queues = λ k. [];
+    stands = fresh-stands;
+    same = record { installed = []; placed = []; time = 0; is = sym fresh-plain; named = start-named };
+  }

@@ -1,0 +1,105 @@
+-- Messages placed, on a board and on its machine: as they are, or addressed first; and the wait for one.
+-- Assumes nothing.
+use mathlib.Core.Path.{_≡_, sym, ap, _∙_, subst}
+use mathlib.Core.Logic.{_≢_}
+use mathlib.Core.Bool.{cond}
+use mathlib.Core.List.{List}
+use Prim.Native.Nat.{ℕ, suc}
+use lib.Dec.{eqb}
+use lib.ListN.{length}
+use Rattle.links.specs.Queue.{goesBefore}
+use Rattle.links.proofs.Insertion.{insert-stays}
+use Rattle.board.specs.declared.numbers.Size.{Size}
+use Rattle.board.specs.declared.records.Message.{Message}
+use Rattle.board.specs.declared.places.Place.the-variants.{HeldBy}
+use Rattle.board.specs.Numbers.{taskNo}
+use Rattle.board.specs.Status.{WAIT, MHBS, number, fifo}
+use Rattle.board.specs.Records.{withPrio, withRptr, withSptr}
+use Rattle.board.specs.Board.{Board, task, message, place}
+use Rattle.board.proofs.Numbered.{length-put}
+use Rattle.paper.specs.Rules.{messageNumber}
+use Rattle.paper.specs.Changes.{sets}
+use Rattle.paper.specs.Effects.{placeAt, ownPrio, addressed, send, waits}
+use Rattle.linked.specs.Linked.{Numbered}
+use Rattle.kept.specs.Stands.{Stands}
+use Rattle.kept.specs.After.{changed, placed, sent}
+use Rattle.kept.specs.Claims.{Sizes}
+use Rattle.kept.proofs.Reading.{message-put, message-other}
+use Rattle.kept.proofs.Holding.{isQueued, unqueued-out, held-numbered}
+use Rattle.history.specs.Ranking as ranks
+use Rattle.history.specs.Ranking.{Entry}
+use Rattle.history.specs.Machine as plain
+use Rattle.history.specs.Machine.{Plain}
+use Rattle.history.proofs.Named.{Named, laid, named-flagged, named-block, named-place}
+use Rattle.history.proofs.Machines.{plainOf, plain-message, plain-sets, plain-placed}
+use Rattle.history.proofs.Asked.{first-mptr}
+use Rattle.history.proofs.Same.{Same, same-at, held-apart}
+
+-- ---- placed
+-- a message that stands nowhere goes into the queue of r
+place-same : (z : Size) (b : Board) (q : List ℕ) (f : ℕ → List ℕ) (l s : List Entry) (n : ℕ)
+    → Named z (plainOf b l s n) q f → (m r : ℕ) → ((x : Entry) → ranks.Stands x s → x .id ≢ m) → Numbered (z .tasks) r
+    → Numbered (length (b .tasks)) r → Numbered (length (b .messages)) m → Numbered (length (b .places)) m
+    → Same z (placeAt z b m r) q (placed b f m (message b m .prio) r) (plain.place (plainOf b l s n) m r)
+place-same z b q f l s n w m r apart d hr hm hp =
+    same-at l (laid (plainOf b l s n) m r .placements) (suc n)
+    (plain-placed z l s n b m r hr hm hp) (named-place z (plainOf b l s n) q f w m r apart d)
+
+module _ (z : Size) (b : Board) (q : List ℕ) (f : ℕ → List ℕ) (a : Sizes z) (h : Stands z b q f)
+    (l s : List Entry) (n : ℕ) (w : Named z (plainOf b l s n) q f) where
+  abbrev p : Plain
+  p = plainOf b l s n
+
+  module _ (c m r : ℕ) (held : place b m ≡ HeldBy (taskNo c)) (d : Numbered (z .tasks) r) where
+    numbered : Numbered (z .messages) m
+    numbered = held-numbered z b q f h m c held
+
+    -- resend, forward, return: a held one, as it is
+    pub forward-same : Same z (placeAt z b m r) q (placed b f m (message b m .prio) r) (plain.place (plainOf b l s n) m r)
+    forward-same =
+        place-same z b q f l s n w m r (held-apart z b q f a h l s n w c m held) d (rw (h .fits .tasks) d)
+        (rw (h .fits .messages) numbered) (rw (h .fits .places) numbered)
+
+    -- ---- a held one, addressed first
+    abbrev new : Message
+    new = let t = message b m in
+        withSptr (withRptr (withPrio t (ownPrio (t .prio) (task b c .prio))) r) (cond (eqb (t .sptr) 0) c (t .sptr))
+
+    abbrev e : Board
+    e = addressed b c m r
+
+    plain-addressed : plain.addressed p c m r ≡ plainOf e l s n
+    plain-addressed = plain-message l s n b m new (rw (h .fits .messages) numbered)
+
+    addressed-reads : message e m ≡ new
+    addressed-reads = message-put b m new (rw (h .fits .messages) numbered)
+
+    -- it goes where its new priority puts it
+    addressed-queue : placed e f m (message e m .prio) r ≡ sent b c f m r
+    addressed-queue =
+        let prio : ℕ = new .prio in
+        ap (λ (t : Message). placed e f m (t .prio) r) addressed-reads
+        ∙ ap (changed f r) (insert-stays (λ y. goesBefore (fifo prio) (number prio) (messageNumber e y))
+        (λ y. goesBefore (fifo prio) (number prio) (messageNumber b y)) m (f r)
+        (λ y i. ap (λ (t : Message). goesBefore (fifo prio) (number prio) (number (t .prio)))
+        (message-other b m y new (unqueued-out z b q f h m (ap isQueued held) r d y i))))
+
+    -- send
+    pub send-same : Same z (send z b c m r) q (sent b c f m r) (plain.place (plain.addressed (plainOf b l s n) c m r) m r)
+    send-same =
+        let apart = held-apart z b q f a h l s n w c m held in
+        let v : Named z (plainOf e l s n) q f =
+        subst (λ (x : Plain). Named z x q f) plain-addressed (named-block z p q f w m _ apart) in
+        subst (λ (g : ℕ → List ℕ). Same z (send z b c m r) q g (plain.place (plain.addressed p c m r) m r)) addressed-queue
+        (subst (λ (x : Plain). Same z (send z b c m r) q (placed e f m (message e m .prio) r) (plain.place x m r))
+        (sym plain-addressed) (place-same z e q f l s n v m r apart d (rw (h .fits .tasks) d)
+        (rw (length-put (b .messages) m new, h .fits .messages) numbered) (rw (h .fits .places) numbered)))
+
+  -- ---- the wait
+  -- for a message, or to be handed one that is queued
+  pub waits-same : (c : ℕ) → Numbered (z .tasks) c → Same z (waits c b) q f (plain.waits c (plainOf b l s n))
+  waits-same c d =
+      same-at l s n
+      (ap (λ (m : ℕ). plain.sets p c (cond (eqb m 0) WAIT MHBS)) (first-mptr z b q f a h l s n w c d)
+      ∙ plain-sets l s n b c (rw (h .fits .tasks) d) _)
+      (named-flagged z p q f w c _)

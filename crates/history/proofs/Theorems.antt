@@ -1,0 +1,61 @@
+-- The claims of specs/Claims, proved: the ranking is one, and the links agree with the history.
+-- Assumes nothing.
+use mathlib.Core.Path.{_≡_, refl, sym, ap₂, subst}
+use mathlib.Core.List.{List, [], _∷_}
+use Prim.Native.Nat.{ℕ}
+use Rattle.board.specs.declared.numbers.Size.{Size}
+use Rattle.board.specs.Board.{Board, boardOf}
+use Rattle.paper.specs.declared.call.Call.{Call}
+use Rattle.paper.specs.Rules.{order}
+use Rattle.paper.specs.Step.{effect}
+use Rattle.paper.specs.History as bytes
+use Rattle.kept.specs.Claims.{Sizes}
+use Rattle.kept.proofs.Reading.{order-walked, queue-walked}
+use Rattle.history.specs.Ranking.{keep, Names}
+use Rattle.history.specs.Machine.{Plain, start, step}
+use Rattle.history.specs.Claims.{OneRanking, Agrees, past, AllFit, LinksAgree}
+use Rattle.history.proofs.Ranks as ranks
+use Rattle.history.proofs.Listed.{isAt}
+use Rattle.history.proofs.Asked.{asked-running, places-say}
+use Rattle.history.proofs.Same.{same-holds}
+use Rattle.history.proofs.Steps.{Agreeing, call-agrees}
+use Rattle.history.proofs.Fresh.{fresh-agrees}
+
+-- ---- the ranking
+-- of entries made at different times there is one, and only one
+pub one-ranking : OneRanking
+one-ranking = ranks.one-ranking
+
+-- ---- what the bytes show
+-- bytes that agree with the machine call by call agree with it in all that is seen
+agreeing-agrees : (z : Size) → Sizes z → (l : List ℕ) (p : Plain) → Agreeing z l p → Agrees z l p
+agreeing-agrees z a l p t =
+    let b : Board = boardOf z l in
+    let q = t .order in
+    let f = t .queues in
+    same-holds z b q f p (Agrees z l) (t .same) (λ i s n w. record {
+      tasks = λ k. refl;
+      messages = λ m. refl;
+      places = λ m. places-say z b q f (t .stands) m;
+      once = (w .tasks .once, w .messages .once);
+      order = subst (Names i) (sym (order-walked z b q f (t .stands) (a .limit))) (w .order);
+      queues = λ k d. subst (Names (keep (isAt k) s)) (sym (queue-walked z b q f (t .stands) k d)) (w .queues k d);
+      runs = sym (asked-running z b q f a (t .stands) i s n w);
+    })
+
+-- ---- histories
+-- from bytes and a machine that agree, the answers are the same one by one, and bytes and machine agree afterwards
+history-agrees : (z : Size) → Sizes z → (calls : List Call) (l : List ℕ) (p : Plain) → AllFit calls → Agreeing z l p
+    → (bytes.run z l calls .answers ≡ past z p calls .answers)
+    × Agreeing z (bytes.run z l calls .after) (past z p calls .plain)
+history-agrees z a [] l p w t = (refl, t)
+history-agrees z a (call ∷ calls) l p w t =
+    let o = call-agrees z a l p call (w .0) t in
+    let r = history-agrees z a calls (effect z l call .after) (step z p call .plain) (w .1) (o .1) in
+    (ap₂ _∷_ (o .0) (r .0), r .1)
+
+-- demand 3: a machine without links gives the same answers from the fresh board on, and the links list its rankings
+pub links-agree : LinksAgree
+links-agree z a calls w =
+    let r = history-agrees z a calls _ start w (fresh-agrees z a) in
+    (r .0, agreeing-agrees z a _ _ (r .1))

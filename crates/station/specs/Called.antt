@@ -1,0 +1,20 @@
+-- What C is told of a call that it asked for by its kind, and the bytes it is left with. A reader of the exports must believe this file.
+--   wordFor l asked      the packed answer of document 01's effect on l; 255 for no call, whatever the board
+--   leftFor l asked      the bytes of that effect; for no call, l
+-- Assumes nothing.
+use mathlib.Core.List.{List}
+use Prim.Native.Nat.{ℕ}
+use Rattle.board.specs.Numbers.{small}
+use Rattle.paper.specs.Answers.{handed}
+use Rattle.paper.specs.Step.{effect}
+use Rattle.station.specs.declared.asked.Asked.{Asked}
+use Rattle.station.specs.declared.asked.Asked.the-variants.{Made, NoCall}
+use Rattle.station.specs.Packed.{packed}
+
+abbrev pub wordFor : List ℕ → Asked → ℕ
+wordFor l (Made call) = packed (handed (effect small l call .answer))
+wordFor l NoCall = 255
+
+abbrev pub leftFor : List ℕ → Asked → List ℕ
+leftFor l (Made call) = effect small l call .after
+leftFor l NoCall = l

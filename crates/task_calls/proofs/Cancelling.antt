@@ -1,0 +1,103 @@
+-- Cancel task: what each test that it makes, in the order of its row, comes to.
+-- Assumes nothing.
+use mathlib.Core.Path.{_≡_, refl, sym, ap, ap₂, _∙_}
+use mathlib.Core.Bool.{Bool, true, false, not, _||_}
+use mathlib.Core.List.{List, [], _∷_}
+use Prim.Native.Nat.{ℕ}
+use lib.Dec.{eqb}
+use borrow.Author.Tests.{eq-eqb, ne-eqb}
+use Rattle.board.specs.declared.numbers.Size.{Size}
+use Rattle.board.specs.declared.numbers.TaskNo.{TaskNo}
+use Rattle.board.specs.declared.numbers.TaskMeant.{TaskMeant}
+use Rattle.board.specs.declared.numbers.TaskMeant.the-variants as means
+use Rattle.board.specs.declared.records.Task.{Task}
+use Rattle.board.specs.Numbers.{taskNo, taskMeant}
+use Rattle.board.specs.Status.{IWAT, has}
+use Rattle.board.specs.Records.{noTask}
+use Rattle.board.specs.Board.{Board, boardOf, task}
+use Rattle.board.specs.Writes.{putTask}
+use Rattle.paper.specs.declared.call.Call.{Call}
+use Rattle.paper.specs.declared.call.Call.the-variants.{CancelTask}
+use Rattle.paper.specs.declared.answer.Refusal.the-variants.{NobodyRuns, NoSuchTask, TaskBusy}
+use Rattle.paper.specs.Rules.{running}
+use Rattle.paper.specs.Refusals.{holdsOne, no3, no6, no10, lowest}
+use Rattle.queue.specs.Moves.{orderOut}
+use Rattle.inner.specs.declared.step.Step.the-variants.{Done, Stopped}
+use Rattle.inner.specs.Inner.{presentMeant}
+use Rattle.inner.specs.Stores.{Makes, verdict, stepping}
+use Rattle.inner.proofs.Rows.{lowest-stop, lowest-on, nobody-runs, one-runs, task-row, no-task-row}
+use Rattle.task_calls.proofs.Steps.{stops, does}
+
+module _ (z : Size) (l : List ℕ) (k : ℕ) where
+  abbrev b : Board
+  b = boardOf z l
+
+  abbrev c : ℕ
+  c = running z b
+
+  abbrev call : Call
+  call = CancelTask k
+
+  -- x is who runs
+  module _ {x : TaskMeant} (d : x ≡ taskMeant z c) where
+    -- 3: nobody
+    pub cancel-nobody : x ≡ means.NoTask → Makes (Stopped NobodyRuns) l (stepping z l call)
+    cancel-nobody e = stops z l call (lowest-stop (no3 c) (no6 z b k ∷ no10 b k ∷ []) (nobody-runs z l (sym d ∙ e)))
+
+    -- one does, and m is what k means
+    module _ {r : TaskNo} (e : x ≡ means.Task r) {m : TaskMeant} (f : m ≡ presentMeant z b k) where
+      runs : verdict z l call ≡ lowest (no6 z b k ∷ no10 b k ∷ [])
+      runs = lowest-on (no3 c) (no6 z b k ∷ no10 b k ∷ []) (one-runs z l r (sym d ∙ e) .0)
+
+      -- 6: no task
+      pub cancel-no-task : m ≡ means.NoTask → Makes (Stopped NoSuchTask) l (stepping z l call)
+      cancel-no-task g = stops z l call (runs ∙ lowest-stop (no6 z b k) (no10 b k ∷ []) (no-task-row z b k (sym f ∙ g)))
+
+      -- task n, of record t
+      module _ {n : TaskNo} (g : m ≡ means.Task n) {t : Task} (s : t ≡ task b (n .0)) where
+        meant : n ≡ taskNo k
+        meant = task-row z b k n (sym f ∙ g) .1
+
+        read : t ≡ task b k
+        read = s ∙ ap (λ (j : TaskNo). task b (j .0)) meant
+
+        there : verdict z l call ≡ lowest (no10 b k ∷ [])
+        there = runs ∙ lowest-on (no6 z b k) (no10 b k ∷ []) (task-row z b k n (sym f ∙ g) .0)
+
+        busy : no10 b k .applies ≡ true → Makes (Stopped TaskBusy) l (stepping z l call)
+        busy y = stops z l call (there ∙ lowest-stop (no10 b k) [] y)
+
+        tested : (u : Bool) → eqb (t .mptr) 0 ≡ u → no10 b k .applies ≡ not u || holdsOne b k || has (t .stat) IWAT
+        tested u h = rw (← read, h)
+
+        -- 10: a message is queued at it
+        pub cancel-queued : (t .mptr ≡ 0 → ⊥) → Makes (Stopped TaskBusy) l (stepping z l call)
+        cancel-queued h = busy (tested false (ne-eqb (t .mptr) 0 h))
+
+        -- none is, and u is the test that it holds one
+        module _ (h : t .mptr ≡ 0) {u : Bool} (i : u ≡ holdsOne b (n .0)) where
+          idle : no10 b k .applies ≡ u || has (t .stat) IWAT
+          idle =
+              tested true (eq-eqb (t .mptr) 0 h)
+              ∙ ap (λ (x : Bool). x || has (t .stat) IWAT) (sym (i ∙ ap (λ (j : TaskNo). holdsOne b (j .0)) meant))
+
+          -- 10: it does
+          pub cancel-holds : u ≡ true → Makes (Stopped TaskBusy) l (stepping z l call)
+          cancel-holds j = busy (idle ∙ ap (λ (x : Bool). x || has (t .stat) IWAT) j)
+
+          -- it doesn't, and v is the test that it waits for an interrupt
+          module _ (j : u ≡ false) {v : Bool} (q : v ≡ has (t .stat) IWAT) where
+            waiting : no10 b k .applies ≡ v
+            waiting = idle ∙ ap (λ (x : Bool). x || has (t .stat) IWAT) j ∙ sym q
+
+            -- 10: it does
+            pub cancel-waits : v ≡ true → Makes (Stopped TaskBusy) l (stepping z l call)
+            cancel-waits y = busy (waiting ∙ y)
+
+            -- it doesn't: it is taken out of the task queue, and its record is none
+            pub cancels : {out after : List ℕ} {none : Task} → v ≡ false → out ≡ orderOut z l (n .0) → none ≡ noTask
+                → after ≡ putTask z out (n .0) none → Makes (Done 0) after (stepping z l call)
+            cancels y o p a =
+                does z l call (there ∙ lowest-on (no10 b k) [] (waiting ∙ y)) refl
+                (a ∙ ap₂ (λ (x : List ℕ) (w : Task). putTask z x (n .0) w) o p
+                ∙ ap (λ (x : TaskNo). putTask z (orderOut z l (x .0)) (x .0) noTask) meant)

@@ -1,0 +1,6 @@
+mod Steps
+mod Naming
+mod Holding
+mod Installing
+mod Cancelling
+mod Interrupting
