@@ -16,3 +16,4 @@ pub mod Dispatch
 pub mod Steps
 pub mod Fresh
 pub mod Theorems
+pub mod Coded

@@ -4,10 +4,13 @@
 --                        the running task is the machine's
 --   past z p calls       the machine after these calls, and its answers
 --   LinksAgree           whatever calls are made from the fresh board, all answers agree, one by one, and afterwards the bytes agree
+--   Made l calls as d    a program was handed the answers as for these calls and left d of l, each call as the contract of the step says
+--   CodeAgrees           so it is with every program that meets the contracts of fresh and of the step (Rattle.station, src/lib.rt)
 -- Assumes nothing.
 use mathlib.Core.Path.{_≡_}
 use mathlib.Core.List.{List, [], _∷_}
 use Prim.Native.Nat.{ℕ}
+use lib.ListN.{length}
 use lib.Dec.{eqb}
 use Rattle.board.specs.declared.numbers.Size.{Size}
 use Rattle.board.specs.declared.numbers.TaskNo.{TaskNo}
@@ -15,12 +18,13 @@ use Rattle.board.specs.declared.records.Task.{Task}
 use Rattle.board.specs.declared.records.Message.{Message}
 use Rattle.board.specs.declared.places.Place.{Place}
 use Rattle.board.specs.declared.places.Place.the-variants as places
-use Rattle.board.specs.Board.{Board, boardOf, task, message, place}
+use Rattle.board.specs.Numbers.{small}
+use Rattle.board.specs.Board.{Board, boardOf, total, task, message, place}
 use Rattle.paper.specs.declared.call.Call.{Call}
 use Rattle.paper.specs.declared.answer.Answer.{Answer}
 use Rattle.paper.specs.Rules.{order, queue}
 use Rattle.paper.specs.Rules as rules
-use Rattle.paper.specs.Step.{blank}
+use Rattle.paper.specs.Step.{blank, Ends, effect, fresh}
 use Rattle.paper.specs.History as bytes
 use Rattle.linked.specs.Linked.{Numbered}
 use Rattle.kept.specs.Stands.{Fitting}
@@ -80,3 +84,16 @@ LinksAgree =
     (z : Size) → Sizes z → (calls : List Call) → AllFit calls
     → (bytes.run z (blank z) calls .answers ≡ past z start calls .answers)
     × Agrees z (bytes.run z (blank z) calls .after) (past z start calls .plain)
+
+-- ---- the same of code
+abbrev pub Made : List ℕ → List Call → List Answer → List ℕ → Type 0
+Made l [] [] d = d ≡ l
+Made l [] (a ∷ answers) d = ⊥
+Made l (call ∷ calls) [] d = ⊥
+Made l (call ∷ calls) (a ∷ answers) d = (m : List ℕ) × Ends a m (effect small l call) × Made m calls answers d
+
+abbrev pub CodeAgrees : Type 0
+CodeAgrees =
+    (lent l d : List ℕ) (a : Answer) (calls : List Call) (answers : List Answer)
+    → length lent ≡ total small → Ends a l (fresh small lent) → AllFit calls → Made l calls answers d
+    → (answers ≡ past small start calls .answers) × Agrees small d (past small start calls .plain)

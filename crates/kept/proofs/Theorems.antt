@@ -7,12 +7,13 @@ use mathlib.Core.List.{List, [], _∷_}
 use Prim.Native.Nat.{ℕ}
 use native.Mathlib.Omega.{arith}
 use lib.ListN.{length}
-use lib.Dec.{eqb}
+use lib.Dec.{eqb, lit<, lit≤}
 use borrow.Author.Tests.{not-false}
 use Rattle.links.specs.Queue.{firstWith}
 use Rattle.board.specs.declared.numbers.Size.{Size}
 use Rattle.board.specs.declared.status.Status.{Status}
 use Rattle.board.specs.declared.records.Task.{Task}
+use Rattle.board.specs.Numbers.{small}
 use Rattle.board.specs.Status.{MHBS, has}
 use Rattle.board.specs.Board.{Board, boardOf, bytesOf, task}
 use Rattle.board.proofs.Codec.{length-tasks, length-places}
@@ -43,6 +44,10 @@ use Rattle.kept.proofs.Waiting.{receive-and-wait-stands}
 use Rattle.kept.proofs.Placing.{send-stands, resend-stands, forward-stands, return-stands}
 use Rattle.kept.proofs.Taking.{receive-stands, cancel-message-stands}
 use Rattle.kept.proofs.Dispatching.{Dispatched, dispatched}
+
+-- the small board's sizes are such that all promises hold
+pub small-sizes : Sizes small
+small-sizes = record { tasks = lit≤ tt; limit = lit≤ tt; words = lit< tt }
 
 -- ---- the body of each call
 pub body-stands : BodyStands

@@ -47,7 +47,7 @@ use Rattle.inner.specs.declared.step.Step.the-variants.{Done, Stopped}
 use Rattle.inner.specs.Inner.{heldOf}
 use Rattle.inner.specs.Stores.{releaseIn, prepareIn, Makes, verdict, stepping}
 use Rattle.inner.proofs.Rows.{lowest-stop, lowest-on}
-use Rattle.message_calls.proofs.Steps.{stops, does, one-goes, held-goes}
+use Rattle.inner.proofs.Steps.{stops, does, one-goes, held-goes}
 
 -- ---- the lowest free message
 -- the code holds the place p as q and met another variant than Free

@@ -1,4 +1,3 @@
-pub mod Steps
 pub mod Placing
 pub mod Sending
 pub mod Receiving

@@ -30,7 +30,7 @@ use Rattle.inner.specs.declared.step.Step.the-variants.{Done, Stopped}
 use Rattle.inner.specs.Inner.{presentMeant}
 use Rattle.inner.specs.Stores.{takeIn, emptiedIn, cancelMessageIn, Makes, verdict, stepping}
 use Rattle.inner.proofs.Rows.{lowest-stop, lowest-on, task-row, no-task-row}
-use Rattle.message_calls.proofs.Steps.{stops, does, one-goes}
+use Rattle.inner.proofs.Steps.{stops, does, one-goes}
 
 -- ---- the first message of the queue of c, if there is one
 module _ (z : Size) (l : List ℕ) (c : TaskNo) (t : Task) (et : t ≡ task (boardOf z l) (c .0)) (first : MessageMeant)

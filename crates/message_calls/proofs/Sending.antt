@@ -34,7 +34,7 @@ use Rattle.inner.specs.Inner.{heldOf, presentMeant, placedBy, bytesBy}
 use Rattle.inner.specs.Stores.{placeAtIn, addressedIn, sendIn, bodyIn, Makes, verdict, placing}
 use Rattle.inner.proofs.Rows.{lowest-stop, lowest-on, task-row, no-task-row}
 use Rattle.message_calls.specs.PassOn.{passVerdict, passing}
-use Rattle.message_calls.proofs.Steps.{made-by, refuses, places, held-goes}
+use Rattle.inner.proofs.Steps.{made-by, refuses, places, held-goes}
 
 -- ---- the fields that send writes
 -- x or y by the test that code made

@@ -45,7 +45,7 @@ pub fn receive(z: Size, b: &mut [u8]) -> Step
         return Step::Stopped(Refusal::NobodyRuns);
     };
     let t = task_at(z, b, c);
-    let first = take_first(z, b, c);
+    take_first(z, b, c);
     Step::Done(t.mptr)
 }
 

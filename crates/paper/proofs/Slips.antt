@@ -119,3 +119,9 @@ case-last-sender = refl
 case-return-and-resend :
     map (queueAfter (sleeper ++ (Prepare 1 0 0x15 2 ∷ Send 1 1 ∷ Receive ∷ Return 1 ∷ []))) (1 ∷ 2 ∷ []) ≡ [] ∷ (1 ∷ []) ∷ []
 case-return-and-resend = refl
+
+-- a message that is released is claimed anew with nothing left of what it was
+case-released-cleared :
+    answersTo (Install 1 0x01 0x31 0 0 ∷ Claim ∷ Prepare 1 0 0x15 1 ∷ Release 1 ∷ Claim ∷ [])
+    ≡ ok ∷ Accepted 1 1 0 ∷ ok ∷ ok ∷ Accepted 1 1 0 ∷ []
+case-released-cleared = refl

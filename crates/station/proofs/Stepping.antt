@@ -4,7 +4,7 @@ use mathlib.Core.Bool.{true, false, not}
 use mathlib.Core.List.{List, _∷_}
 use Prim.Native.Nat.{ℕ, _<_}
 use lib.ListN.{length, getD}
-use lib.Dec.{eqb, lit<, lit≤}
+use lib.Dec.{eqb}
 use borrow.Author.Tests.{eqb-true}
 use Rattle.board.specs.Numbers.{small}
 use Rattle.board.specs.Board.{Board, boardOf}
@@ -17,15 +17,12 @@ use Rattle.paper.specs.Rules.{running, passes}
 use Rattle.paper.specs.Refusals.{no1, no2, own, row, Verdict, Stop, lowest}
 use Rattle.paper.specs.Step.{Outcome, Ends, judge, body, dispatch, effect}
 use Rattle.kept.specs.Stands.{Fitting}
-use Rattle.kept.specs.Claims.{Sizes, Bytes}
+use Rattle.kept.specs.Claims.{Bytes}
+use Rattle.kept.proofs.Theorems.{small-sizes}
 use Rattle.inner.specs.Stores.{calledIn}
 use Rattle.inner.proofs.Rows.{lowest-stop, lowest-on}
 use Rattle.stored.proofs.Theorems.{call-effect}
 use Rattle.station.proofs.Answers.{ends}
-
--- the small board's sizes are such that all promises hold
-pub small-sizes : Sizes small
-small-sizes = record { tasks = lit≤ tt; limit = lit≤ tt; words = lit< tt }
 
 module _ (l : List ℕ) (call : Call) where
   abbrev b : Board

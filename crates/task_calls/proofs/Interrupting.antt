@@ -21,7 +21,7 @@ use Rattle.inner.specs.declared.step.Step.the-variants.{Done, Stopped}
 use Rattle.inner.specs.Inner.{presentMeant}
 use Rattle.inner.specs.Stores.{postIn, waitInterruptIn, Makes, stepping}
 use Rattle.inner.proofs.Rows.{lowest-stop, lowest-on, nobody-runs, one-runs, task-row, no-task-row}
-use Rattle.task_calls.proofs.Steps.{stops, does}
+use Rattle.inner.proofs.Steps.{stops, does}
 
 -- ---- post interrupt
 -- what it stores, by the test that it makes
@@ -33,7 +33,7 @@ module _ (z : Size) (l : List ℕ) (k : ℕ) {m : TaskMeant} (d : m ≡ presentM
   -- 6: no task
   pub post-no-task : m ≡ means.NoTask → Makes (Stopped NoSuchTask) l (stepping z l (PostInterrupt k))
   post-no-task e =
-      stops z l (PostInterrupt k) (lowest-stop (no6 z (boardOf z l) k) [] (no-task-row z (boardOf z l) k (sym d ∙ e)))
+      stops z l (PostInterrupt k) _ l (lowest-stop (no6 z (boardOf z l) k) [] (no-task-row z (boardOf z l) k (sym d ∙ e))) refl
 
   -- task n, of record t, and u is the test that it waits for an interrupt
   module _ {n : TaskNo} (e : m ≡ means.Task n) {t : Task} (s : t ≡ task (boardOf z l) (n .0))
@@ -41,7 +41,7 @@ module _ (z : Size) (l : List ℕ) (k : ℕ) {m : TaskMeant} (d : m ≡ presentM
     posts : {after : List ℕ} → after ≡ postBy z l (n .0) u → Makes (Done 0) after (stepping z l (PostInterrupt k))
     posts a =
         let r = task-row z (boardOf z l) k n (sym d ∙ e) in
-        does z l (PostInterrupt k) (lowest-on (no6 z (boardOf z l) k) [] (r .0)) refl
+        does z l (PostInterrupt k) _ _ (lowest-on (no6 z (boardOf z l) k) [] (r .0)) refl
         (a ∙ ap (postBy z l (n .0)) (i ∙ ap (λ (x : Task). has (x .stat) IWAT) s) ∙ ap (λ (x : TaskNo). postIn z l (x .0)) (r .1))
 
     -- it does: no longer
@@ -63,7 +63,7 @@ waitBy z l c t = cond t (clearsIn z l c INTQ) (setsIn z l c IWAT)
 module _ (z : Size) (l : List ℕ) {m : TaskMeant} (d : m ≡ taskMeant z (running z (boardOf z l))) where
   -- 3: nobody
   pub wait-nobody : m ≡ means.NoTask → Makes (Stopped NobodyRuns) l (stepping z l WaitForInterrupt)
-  wait-nobody e = stops z l WaitForInterrupt (lowest-stop (no3 (running z (boardOf z l))) [] (nobody-runs z l (sym d ∙ e)))
+  wait-nobody e = stops z l WaitForInterrupt _ l (lowest-stop (no3 (running z (boardOf z l))) [] (nobody-runs z l (sym d ∙ e))) refl
 
   -- task n, of record t, and u is the test that an interrupt is queued for it
   module _ {n : TaskNo} (e : m ≡ means.Task n) {t : Task} (s : t ≡ task (boardOf z l) (n .0))
@@ -71,7 +71,7 @@ module _ (z : Size) (l : List ℕ) {m : TaskMeant} (d : m ≡ taskMeant z (runni
     waits : {after : List ℕ} → after ≡ waitBy z l (n .0) u → Makes (Done 0) after (stepping z l WaitForInterrupt)
     waits a =
         let r = one-runs z l n (sym d ∙ e) in
-        does z l WaitForInterrupt (lowest-on (no3 (running z (boardOf z l))) [] (r .0)) refl
+        does z l WaitForInterrupt _ _ (lowest-on (no3 (running z (boardOf z l))) [] (r .0)) refl
         (a ∙ ap (waitBy z l (n .0)) (i ∙ ap (λ (x : Task). has (x .stat) INTQ) s)
         ∙ ap (λ (x : TaskNo). waitInterruptIn z l (x .0)) (r .1))
 

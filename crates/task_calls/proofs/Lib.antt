@@ -1,4 +1,3 @@
-mod Steps
 mod Naming
 mod Holding
 mod Installing

@@ -2,7 +2,7 @@ use borrow.Author.Needs.{needs}
 use mathlib.Core.Path.{refl}
 use denote.Ref.{now}
 use Rattle.paper.specs.declared.call.Call.the-variants.{Claim}
-use Rattle.message_calls.proofs.Steps.{nobody-stops}
+use Rattle.inner.proofs.Steps.{nobody-stops}
 use Rattle.message_calls.proofs.Claiming.{claim-stops, claim-does}
 use Rattle.message_calls.proofs.blocks.claim.Statement.{statement}
 use Rattle.message_calls.proofs.blocks.claim.Tie as tie

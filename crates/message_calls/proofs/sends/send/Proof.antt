@@ -1,7 +1,7 @@
 use mathlib.Core.Path.{refl}
 use denote.Ref.{now}
 use Rattle.paper.specs.declared.call.Call.the-variants.{Send}
-use Rattle.message_calls.proofs.Steps.{not-held-refuses}
+use Rattle.inner.proofs.Steps.{not-held-refuses}
 use Rattle.message_calls.proofs.Sending.{send-no-task, sent}
 use borrow.Author.Needs.{needs}
 use Rattle.message_calls.proofs.sends.send.Statement.{statement}

@@ -2,7 +2,7 @@ use borrow.Author.Needs.{needs}
 use mathlib.Core.Path.{refl}
 use denote.Ref.{now}
 use Rattle.paper.specs.declared.call.Call.the-variants.{CancelMessage}
-use Rattle.message_calls.proofs.Steps.{nobody-stops}
+use Rattle.inner.proofs.Steps.{nobody-stops}
 use Rattle.message_calls.proofs.Receiving.{cancel-no-message, cancel-no-task, cancel-not-queued, cancel-not-sender, cancel-does}
 use Rattle.message_calls.proofs.take.cancel_message.Statement.{statement}
 use Rattle.message_calls.proofs.take.cancel_message.Tie as tie

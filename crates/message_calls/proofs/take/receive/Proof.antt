@@ -2,7 +2,7 @@ use borrow.Author.Needs.{needs}
 use mathlib.Core.Path.{refl}
 use denote.Ref.{now}
 use Rattle.paper.specs.declared.call.Call.the-variants.{Receive}
-use Rattle.message_calls.proofs.Steps.{nobody-stops}
+use Rattle.inner.proofs.Steps.{nobody-stops}
 use Rattle.message_calls.proofs.Receiving.{receive-does}
 use Rattle.message_calls.proofs.take.receive.Statement.{statement}
 use Rattle.message_calls.proofs.take.receive.Tie as tie
