@@ -5,6 +5,7 @@
 all:
 	@tests/need_kit
 	@rt check
+	@tests/compare_cases worked_boards
 
 test:
 	@tests/need_kit
