@@ -23,7 +23,3 @@ below-at p (suc n) e x h = go (both (p n) (below p n) e) (below-at p n (both (p 
     go : (p n ≡ true) × (below p n ≡ true) → (x < n → p x ≡ true) → Dec (x ≡ n) → p x ≡ true
     go b ih (yes q) = ap p q ∙ b .0
     go b ih (no q) = ih (omega arith)
-
--- so of every byte
-pub every-byte : (p : ℕ → Bool) → below p 256 ≡ true → (x : ℕ) → x < 256 → p x ≡ true
-every-byte p e x h = below-at p 256 e x h

@@ -1,5 +1,5 @@
 -- What dispatch answers and leaves, by the tests that code makes. Assumes nothing.
-use mathlib.Core.Path.{_≡_, refl, sym, ap, ap₂, _∙_}
+use mathlib.Core.Path.{_≡_, sym, ap, ap₂, _∙_}
 use mathlib.Core.Bool.{Bool, true, false, cond}
 use mathlib.Core.List.{List}
 use Prim.Native.Nat.{ℕ}
@@ -11,7 +11,7 @@ use Rattle.board.specs.declared.numbers.TaskMeant.the-variants as who
 use Rattle.board.specs.declared.numbers.MessageMeant.the-variants.{Message, NoMessage}
 use Rattle.board.specs.declared.status.Status.{Status}
 use Rattle.board.specs.declared.records.Task.{Task}
-use Rattle.board.specs.Numbers.{outside, taskNo, taskMeant, messageMeant}
+use Rattle.board.specs.Numbers.{taskMeant, messageMeant}
 use Rattle.board.specs.Status.{MHBS, has}
 use Rattle.board.specs.Board.{Board, boardOf, task}
 use Rattle.board.proofs.Meant.{messageMeant-message, messageMeant-none}
@@ -24,19 +24,13 @@ use Rattle.paper.specs.Rules.{nextMessage, running}
 use Rattle.paper.specs.Step.{Outcome, Ends}
 use Rattle.queue.specs.Moves.{clearsIn, mptrIn, holdIn}
 use Rattle.inner.specs.declared.step.Step.{Step}
-use Rattle.inner.specs.declared.step.Step.the-variants.{Done, Stopped}
+use Rattle.inner.specs.declared.step.Step.the-variants.{Done}
 use Rattle.inner.specs.Stores.{takeIn, deliverIn, Makes, stepping, finish, calledIn}
 use Rattle.inner.proofs.Rows.{nobody-runs, one-runs}
-use Rattle.dispatch.specs.Waiting.{refusalOf}
 
 -- an outcome ends as it says
 ends : (a : Answer) (l : List ℕ) (o : Outcome) → o ≡ record { answer = a; after = l } → Ends a l o
 ends a l o e = record { answers = sym (ap (λ (x : Outcome). x .answer) e); leaves = sym (ap (λ (x : Outcome). x .after) e) }
-
--- ---- a step that was stopped
-pub finish-stopped : (z : Size) (l : List ℕ) (s : Step) (a : Answer) (q : Refusal) → s ≡ Stopped q → a ≡ refusalOf s → Ends a l (finish z s l)
-finish-stopped z l s a q e f =
-    ends a l (finish z s l) (ap (λ (x : Step). finish z x l) e ∙ ap (λ (x : Answer). record { answer = x; after = l }) (sym (f ∙ ap refusalOf e)))
 
 -- ---- a step that was done, with the value v
 module _ (z : Size) (l : List ℕ) (s : Step) (v : ℕ) (e : s ≡ Done v) where

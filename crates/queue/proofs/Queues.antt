@@ -8,7 +8,6 @@ use mathlib.Core.List.{List, [], _∷_}
 use Prim.Native.Nat.{ℕ, _≤_}
 use lib.Dec.{eqb}
 use lib.ListN.{length}
-use borrow.Author.Tests.{eqb-false}
 use Rattle.links.specs.Queue.{firstOf, restOf, goesBefore, without}
 use Rattle.links.specs.Chain.{In, Out, Chain}
 use Rattle.links.specs.Seek.{Spot, seek}
@@ -19,7 +18,7 @@ use Rattle.board.specs.declared.numbers.Size.{Size}
 use Rattle.board.specs.Status.{number, fifo}
 use Rattle.board.specs.Board.{Board, total, boardOf, task, message}
 use Rattle.board.proofs.Codec.{length-tasks, length-places}
-use Rattle.paper.specs.Rules.{nextMessage, messageNumber, queue, emptyQueue}
+use Rattle.paper.specs.Rules.{nextMessage, messageNumber, queue}
 use Rattle.paper.specs.Changes.{linkMessage, withMptr, withQueue}
 use Rattle.paper.specs.Effects.{queueWith}
 use Rattle.linked.specs.Linked.{Numbered, Linked}
@@ -106,15 +105,6 @@ module _ (z : Size) (l : List ℕ) (e : length l ≡ total z) (fuel : z .tasks �
       board-behind z l e r (at .prev) (message b m .link)
       ∙ behind-without (queueStore r) b (queue z b r) queue-chain m at (subst (In m) (sym queue-walks) i)
       (queue-spot (λ y. eqb y m))
-
-  -- the first is taken out
-  pub queue-rest : emptyQueue b r ≡ false
-      → boardOf z (queueOut z l (firstOf (queue z b r)) r) ≡ withQueue b r (restOf (queue z b r))
-  queue-rest f =
-      let i : In (firstOf (queue z b r)) (queue z b r) =
-      first-in (queue z b r) (λ d. eqb-false (task b r .mptr) 0 f (queue-first ∙ d)) in
-      queue-out (firstOf (queue z b r)) (subst (In (firstOf (queue z b r))) queue-walks i)
-      ∙ ap (withQueue b r) (without-firstOf (queue z b r))
 
   -- MPTR alone is stored: the first is passed by
   pub queue-next : boardOf z (mptrIn z l r (nextMessage b (task b r .mptr))) ≡ withQueue b r (restOf (queue z b r))
