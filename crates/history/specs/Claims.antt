@@ -1,4 +1,4 @@
--- Demand 3 as statements; their proofs are in proofs/Theorems. A reader must believe this file.
+-- Demand 3 as statements; their proofs are in proofs/Theorems, that of CodeAgrees in proofs/Coded. A reader must believe this file.
 --   OneRanking           of entries made at different times exactly one list is the ranking
 --   Agrees z l p         the bytes l and the plain machine p agree: the links list the rankings, every other field is the machine's, and
 --                        the running task is the machine's

@@ -1,4 +1,4 @@
--- What calls keep, as statements; their proofs are in proofs/Theorems. A reader must believe this file.
+-- What calls keep, as statements; their proofs are in proofs/Theorems, those of the frames in proofs/Framed. A reader must believe this file.
 --   BodyStands          the body of a call that no refusal of its row stops leaves R1 to R6, and the lists that After says
 --   BodyFrame           it changes only the records that Frames says; DispatchFrame: dispatch only the running task and its message
 --   NeverStuck          refusal 15 is given on no board that passes

@@ -9,7 +9,7 @@ use Rattle.board.specs.declared.numbers.Size.{Size}
 use Rattle.board.specs.declared.records.Message.{Message}
 use Rattle.board.specs.Board.{boardOf, message}
 use Rattle.paper.specs.declared.call.Call.{Call}
-use Rattle.paper.specs.declared.call.Call.the-variants.{Install, Find, Claim, Prepare, Release, Send, Resend, Forward, Return, Receive, ReceiveAndWait, CancelMessage, WaitForInterrupt}
+use Rattle.paper.specs.declared.call.Call.the-variants.{Install, PostInterrupt, Find, Claim, Prepare, Release, Send, Resend, Forward, Return, Receive, ReceiveAndWait, CancelMessage, WaitForInterrupt}
 use Rattle.paper.specs.declared.answer.Answer.{Answer}
 use Rattle.paper.specs.declared.answer.Answer.the-variants.{Accepted, Refused}
 use Rattle.paper.specs.declared.answer.Refusal.the-variants.{RuleBroken, NoSuchMessage, NotHeld, NoSuchTask, BadPriority, NotInstallable, BadSender}
@@ -125,3 +125,9 @@ case-released-cleared :
     answersTo (Install 1 0x01 0x31 0 0 ∷ Claim ∷ Prepare 1 0 0x15 1 ∷ Release 1 ∷ Claim ∷ [])
     ≡ ok ∷ Accepted 1 1 0 ∷ ok ∷ ok ∷ Accepted 1 1 0 ∷ []
 case-released-cleared = refl
+
+-- an interrupt that wakes a task is not queued as well: its next wait is a wait
+case-post-wakes-once :
+    answersTo (Install 1 0x01 0x31 0 0 ∷ WaitForInterrupt ∷ PostInterrupt 1 ∷ WaitForInterrupt ∷ [])
+    ≡ ok ∷ Accepted 0 0 0 ∷ ok ∷ Accepted 0 0 0 ∷ []
+case-post-wakes-once = refl
