@@ -1,3 +1,4 @@
 pub mod Rows
 pub mod Answering
 pub mod Steps
+pub mod Searching

@@ -3,18 +3,16 @@
 -- Assumes nothing.
 use mathlib.Core.Path.{_≡_, refl, sym, ap, _∙_}
 use mathlib.Core.Logic.{⊎-elim}
-use mathlib.Core.Bool.{Bool, true, false, true≢false}
+use mathlib.Core.Bool.{true, false, true≢false}
 use mathlib.Core.List.{List, [], _∷_}
-use Prim.Native.Nat.{ℕ, suc, _+_, _≤_, _<_}
+use Prim.Native.Nat.{ℕ, _≤_, _<_}
 use native.Mathlib.Omega.{arith}
 use native.Mathlib.Decide.{ℕ-discrete}
 use lib.Dec.{eqb}
-use lib.ListN.{drop, drop-of-length-le}
-use lib.Seq.{drop-cons}
 use borrow.Author.Tests.{eq-eqb, ne-eqb, lt-ltb, le-ltb}
 use denote.Enum.Declared.{tagOf}
 use types.Run.{OneOf}
-use Rattle.links.specs.Queue.{firstOf, consIf, which}
+use Rattle.links.specs.Queue.{which}
 use Rattle.board.specs.declared.numbers.Size.{Size}
 use Rattle.board.specs.declared.numbers.TaskNo.{TaskNo}
 use Rattle.board.specs.declared.numbers.MsgNo.{MsgNo}
@@ -59,37 +57,6 @@ not-free p q e h = ap isFree (sym e) ∙ go q h
     go (HeldBy k) i = refl
     go (QueuedAt k) i = refl
     go (Nowhere n) i = refl
-
--- the lowest one above m that is free
-abbrev pub freeAbove : Board → ℕ → ℕ
-freeAbove b m = firstOf (which isFree (suc m) (drop m (b .places)))
-
--- which is v
-module _ (z : Size) (l : List ℕ) (m v : ℕ) (inv : freeAbove (boardOf z l) m ≡ v) where
-  -- the test of the next one says t
-  turn : (t : Bool) → m < z .messages → isFree (place (boardOf z l) (m + 1)) ≡ t
-      → firstOf (consIf t (m + 1) (which isFree (suc (m + 1)) (drop (m + 1) (boardOf z l .places)))) ≡ v
-  turn t h e =
-      let s : m + 1 ≡ suc m = omega arith in
-      let q = boardOf z l .places in
-      let f : t ≡ isFree (place (boardOf z l) (suc m)) = sym e ∙ (λ i. isFree (place (boardOf z l) (s i))) in
-      let d = drop-cons q m Free (omega (arith, length-places z l)) in
-      (λ i. firstOf (consIf (f i) (s i) (which isFree (suc (s i)) (drop (s i) q))))
-      ∙ (λ i. firstOf (which isFree (suc m) (sym d i))) ∙ inv
-
-  -- the next one is free: it is that
-  pub free-found : m < z .messages → place (boardOf z l) (m + 1) ≡ Free → m + 1 ≡ v
-  free-found h e = turn true h (ap isFree e)
-
-  -- the next one is not
-  pub free-above : m < z .messages → isFree (place (boardOf z l) (m + 1)) ≡ false → freeAbove (boardOf z l) (m + 1) ≡ v
-  free-above = turn false
-
-  -- there is no next one
-  pub free-none : z .messages ≤ m → 0 ≡ v
-  free-none h =
-      let d = drop-of-length-le (boardOf z l .places) {i = m} (omega (arith, length-places z l)) in
-      (λ i. firstOf (which isFree (suc m) (sym d i))) ∙ inv
 
 -- ---- claim, where k runs
 module _ (z : Size) (l : List ℕ) (who : TaskMeant) (ew : who ≡ taskMeant z (running z (boardOf z l)))
