@@ -7,3 +7,4 @@ pub mod Written
 pub mod Meant
 mod Access
 mod ByWord
+mod Fields

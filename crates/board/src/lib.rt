@@ -7,4 +7,5 @@ pub mod places;
 pub mod priority;
 pub mod records;
 pub mod status;
+pub mod whole;
 pub mod words;

@@ -2,13 +2,12 @@
 -- Assumes nothing.
 use mathlib.Core.Path.{_≡_, refl, sym, ap, _∙_}
 use mathlib.Core.Logic.{⊎-elim}
-use mathlib.Core.Bool.{Bool, true, false, not, _&&_, _||_, and-true, and-false, true≢false}
+use mathlib.Core.Bool.{Bool, true, false, not, _&&_, _||_, and-true, and-false}
 use mathlib.Core.List.{List, [], _∷_}
 use Prim.Native.Nat.{ℕ}
 use native.Mathlib.Omega.{arith}
 use lib.Dec.{eqb}
 use lib.ListN.{getD, take, drop}
-use borrow.Author.Tests.{eq-eqb, ne-eqb}
 use denote.Enum.Declared.{tagOf}
 use types.Run.{OneOf}
 use Rattle.board.specs.declared.numbers.Size.{Size}
@@ -23,7 +22,6 @@ use Rattle.board.specs.declared.places.Place.the-variants.{Free, HeldBy, Queued
 use Rattle.board.specs.Numbers.{outside, taskMeant}
 use Rattle.board.specs.Status.{WAIT, IWAT, INTQ, MHBS, has}
 use Rattle.board.specs.Records.{noTask}
-use Rattle.board.specs.Places.{isQueuedAt}
 use Rattle.board.specs.Board.{boardOf, task}
 use Rattle.board.proofs.places.Place.{the-type}
 use Rattle.board.proofs.Pieces.{nth-outside}
@@ -87,24 +85,6 @@ module _ (p q : Place) (e : q ≡ p) where
       go (HeldBy k) i = refl
       go (QueuedAt k) i = absurd (⊎-elim (λ f. omega arith) (λ j. ⊎-elim (λ f. omega arith) (λ f. omega arith) j) i)
       go (Nowhere m) i = refl
-
-  -- so it is queued at nobody
-  pub queued-nowhere : (k : ℕ) → OneOf (0 ∷ 1 ∷ 3 ∷ []) (tagOf the-type q) → isQueuedAt k p ≡ false
-  queued-nowhere k h = go p (not-queued h)
-    where
-      go : (p : Place) → isQueued p ≡ false → isQueuedAt k p ≡ false
-      go Free i = refl
-      go (HeldBy r) i = refl
-      go (QueuedAt r) i = absurd (true≢false i)
-      go (Nowhere m) i = refl
-
-  -- it is queued at the task of number n, which is k
-  pub queued-there : (k n : ℕ) (r : TaskNo) → q ≡ QueuedAt r → n ≡ r .0 → n ≡ k → isQueuedAt k p ≡ true
-  queued-there k n r h s t = ap (isQueuedAt k) (sym e ∙ h) ∙ eq-eqb (r .0) k (sym s ∙ t)
-
-  -- or is not
-  pub queued-elsewhere : (k n : ℕ) (r : TaskNo) → q ≡ QueuedAt r → n ≡ r .0 → (n ≡ k → ⊥) → isQueuedAt k p ≡ false
-  queued-elsewhere k n r h s t = ap (isQueuedAt k) (sym e ∙ h) ∙ ne-eqb (r .0) k (λ i. t (s ∙ i))
 
 -- ---- R7: w is who runs
 module _ (z : Size) (l : List ℕ) (w : TaskMeant) (e : w ≡ taskMeant z (running z (boardOf z l))) where

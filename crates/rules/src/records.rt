@@ -1,9 +1,10 @@
 // R1, R2, R4 and R6: what the bytes of one record must be.
 ghost use mathlib.Core.Path.{_≡_};
-ghost use lib.ListN.{take, drop};
+ghost use Prim.Native.Nat.{_≤_};
+ghost use lib.ListN.{length, take, drop};
 ghost use Rattle.links.specs.Queue.{each};
 ghost use Rattle.board.specs.declared.places.Place.the-variants.{HeldBy, QueuedAt};
-ghost use Rattle.board.specs.Board.{boardOf};
+ghost use Rattle.board.specs.Board.{total, boardOf};
 ghost use Rattle.paper.specs.Rules.{present, allZero, zeroTask, taskPrio, goodHead, goodTask, rule2At, zeroMessage, goodPointers, goodMessage, rule4At, goodFlags, rule6At};
 use board::bytes::byte;
 use board::numbers::Size;
@@ -13,9 +14,9 @@ use board::priority::fifo;
 use board::records::Message;
 use board::records::Task;
 use board::status::Status;
-use board::words::message_meant;
-use board::words::place_meant;
-use board::words::task_meant;
+use board::whole::message_in;
+use board::whole::place_in;
+use board::whole::task_in;
 
 pub fn rule1(b: &[u8]) -> bool
     ensures { λ res. ⌜ res ≡ allZero (take 3 (drop 1 (now (b .entry)))) ⌝ }
@@ -86,13 +87,14 @@ fn good_task(t: Task) -> bool
 }
 
 pub fn rule2(z: Size, b: &[u8]) -> bool
+    requires { ⌜ total z ≤ length (now b) ⌝ }
     ensures { λ res. ⌜ res ≡ each (rule2At (boardOf z (now (b .entry)))) (z .tasks) ⌝ }
 {
     let most = z.tasks;
     let mut k: u16 = 0;
     while k < most {
         k += 1;
-        if !good_task(task_meant(z, b, k)) {
+        if !good_task(task_in(z, b, k)) {
             return false;
         }
     }
@@ -127,14 +129,16 @@ fn good_pointers(z: Size, r: Message) -> bool
 }
 
 fn present_at(z: Size, b: &[u8], k: TaskNo) -> bool
+    requires { ⌜ total z ≤ length (now b) ⌝ }
     ensures { λ res. ⌜ res ≡ present (boardOf z (now (b .entry))) (k .0) ⌝ }
 {
-    let t = task_meant(z, b, k.number());
+    let t = task_in(z, b, k.number());
     t.present()
 }
 
 // A held message: RPTR and SPTR in range, LINK 0, its holder present.
 fn good_held(z: Size, b: &[u8], r: Message, k: TaskNo) -> bool
+    requires { ⌜ total z ≤ length (now b) ⌝ }
     ensures { λ res. ⌜ res ≡ goodMessage z (present (boardOf z (now (b .entry)))) r (HeldBy k) ⌝ }
 {
     if !good_pointers(z, r) {
@@ -148,6 +152,7 @@ fn good_held(z: Size, b: &[u8], r: Message, k: TaskNo) -> bool
 
 // A queued message: RPTR and SPTR in range, PRIO odd and below FFH, its receiver present.
 fn good_queued(z: Size, b: &[u8], r: Message, k: TaskNo) -> bool
+    requires { ⌜ total z ≤ length (now b) ⌝ }
     ensures { λ res. ⌜ res ≡ goodMessage z (present (boardOf z (now (b .entry)))) r (QueuedAt k) ⌝ }
 {
     if !good_pointers(z, r) {
@@ -163,6 +168,7 @@ fn good_queued(z: Size, b: &[u8], r: Message, k: TaskNo) -> bool
 }
 
 fn good_message(z: Size, b: &[u8], r: Message, p: Place) -> bool
+    requires { ⌜ total z ≤ length (now b) ⌝ }
     ensures { λ res. ⌜ res ≡ goodMessage z (present (boardOf z (now (b .entry)))) r p ⌝ }
 {
     match p {
@@ -174,14 +180,15 @@ fn good_message(z: Size, b: &[u8], r: Message, p: Place) -> bool
 }
 
 pub fn rule4(z: Size, b: &[u8]) -> bool
+    requires { ⌜ total z ≤ length (now b) ⌝ }
     ensures { λ res. ⌜ res ≡ each (rule4At z (boardOf z (now (b .entry)))) (z .messages) ⌝ }
 {
     let most = z.messages;
     let mut m: u16 = 0;
     while m < most {
         m += 1;
-        let r = message_meant(z, b, m);
-        let p = place_meant(z, b, m);
+        let r = message_in(z, b, m);
+        let p = place_in(z, b, m);
         if !good_message(z, b, r, p) {
             return false;
         }
@@ -215,13 +222,14 @@ fn good_flags(s: Status, empty: bool) -> bool
 }
 
 pub fn rule6(z: Size, b: &[u8]) -> bool
+    requires { ⌜ total z ≤ length (now b) ⌝ }
     ensures { λ res. ⌜ res ≡ each (rule6At (boardOf z (now (b .entry)))) (z .tasks) ⌝ }
 {
     let most = z.tasks;
     let mut k: u16 = 0;
     while k < most {
         k += 1;
-        let t = task_meant(z, b, k);
+        let t = task_in(z, b, k);
         if !good_flags(t.stat, t.mptr == 0) {
             return false;
         }

@@ -1,17 +1,21 @@
 // R3 and R5: what the links of a queue visit. One walk serves both: it follows links while each names a record that belongs to the queue
 // and priority numbers do not fall, and tells how many it saw. As many as there are, all different: then it saw exactly those.
 ghost use mathlib.Core.Path.{_≡_};
+ghost use Prim.Native.Nat.{_≤_};
+ghost use lib.ListN.{length};
 ghost use Rattle.links.specs.Queue.{each};
-ghost use Rattle.board.specs.Board.{boardOf, task};
+ghost use Rattle.board.specs.Board.{total, boardOf, task};
 ghost use Rattle.paper.specs.Rules.{present, nextTask, nextMessage, taskNumber, messageNumber, rule3, rule5At};
 ghost use Rattle.rules.specs.Walks.{turned, visited, counted, queuedAt, queued, walked};
 use board::bytes::first_task;
 use board::numbers::Size;
 use board::places::Place;
 use board::priority::number;
-use board::words::message_meant;
-use board::words::place_meant;
-use board::words::task_meant;
+use board::whole::link_in;
+use board::whole::place_in;
+use board::whole::prio_in;
+use board::whole::queued_in;
+use board::whole::task_in;
 
 // One link followed: the next link and the priority number of the record, or a record that does not belong there.
 pub enum Turn {
@@ -26,9 +30,10 @@ pub enum Walked {
 }
 
 fn task_turn(z: Size, b: &[u8], k: u16, low: u8) -> Turn
+    requires { ⌜ total z ≤ length (now b) ⌝ }
     ensures { λ res. ⌜ res ≡ turned (nextTask (boardOf z (now (b .entry)))) (taskNumber (boardOf z (now (b .entry)))) (present (boardOf z (now (b .entry)))) k low ⌝ }
 {
-    let t = task_meant(z, b, k);
+    let t = task_in(z, b, k);
     if !t.present() {
         return Turn::Stray;
     }
@@ -43,6 +48,7 @@ fn task_turn(z: Size, b: &[u8], k: u16, low: u8) -> Turn
 }
 
 fn walk_tasks(z: Size, b: &[u8]) -> Walked
+    requires { ⌜ total z ≤ length (now b) ⌝ }
     ensures { λ res. ⌜ res ≡ visited (nextTask (boardOf z (now (b .entry)))) (taskNumber (boardOf z (now (b .entry)))) (present (boardOf z (now (b .entry)))) (z .messages) (boardOf z (now (b .entry)) .first) 0 0 ⌝ }
 {
     let limit = z.messages as u32;
@@ -68,6 +74,7 @@ fn walk_tasks(z: Size, b: &[u8]) -> Walked
 }
 
 fn count_present(z: Size, b: &[u8]) -> u16
+    requires { ⌜ total z ≤ length (now b) ⌝ }
     ensures { λ res. ⌜ res ≡ counted (present (boardOf z (now (b .entry)))) (z .tasks) ⌝ }
 {
     let most = z.tasks;
@@ -75,7 +82,7 @@ fn count_present(z: Size, b: &[u8]) -> u16
     let mut n: u16 = 0;
     while k < most {
         k += 1;
-        let t = task_meant(z, b, k);
+        let t = task_in(z, b, k);
         if t.present() {
             n += 1;
         }
@@ -84,6 +91,7 @@ fn count_present(z: Size, b: &[u8]) -> u16
 }
 
 pub fn rule3(z: Size, b: &[u8]) -> bool
+    requires { ⌜ total z ≤ length (now b) ⌝ }
     ensures { λ res. ⌜ res ≡ rule3 z (boardOf z (now (b .entry))) ⌝ }
 {
     let walked = walk_tasks(z, b);
@@ -94,31 +102,28 @@ pub fn rule3(z: Size, b: &[u8]) -> bool
 }
 
 fn message_turn(z: Size, b: &[u8], k: u16, m: u16, low: u8) -> Turn
+    requires { ⌜ total z ≤ length (now b) ⌝ }
     ensures { λ res. ⌜ res ≡ turned (nextMessage (boardOf z (now (b .entry)))) (messageNumber (boardOf z (now (b .entry)))) (queuedAt (boardOf z (now (b .entry))) k) m low ⌝ }
 {
-    let p = place_meant(z, b, m);
-    let Place::QueuedAt(r) = p else {
-        return Turn::Stray;
-    };
-    if r.number() != k {
+    if !queued_in(z, b, k, m) {
         return Turn::Stray;
     }
-    let t = message_meant(z, b, m);
-    let n = number(t.prio);
+    let n = number(prio_in(z, b, m));
     if n < low {
         return Turn::Stray;
     }
     Turn::Next {
-        link: t.link,
+        link: link_in(z, b, m),
         low: n,
     }
 }
 
 fn walk_queue(z: Size, b: &[u8], k: u16) -> Walked
+    requires { ⌜ total z ≤ length (now b) ⌝ }
     ensures { λ res. ⌜ res ≡ visited (nextMessage (boardOf z (now (b .entry)))) (messageNumber (boardOf z (now (b .entry)))) (queuedAt (boardOf z (now (b .entry))) k) (z .messages) (task (boardOf z (now (b .entry))) k .mptr) 0 0 ⌝ }
 {
     let most = z.messages as u32;
-    let t = task_meant(z, b, k);
+    let t = task_in(z, b, k);
     let mut link = t.mptr;
     let mut low: u8 = 0;
     let mut seen: u32 = 0;
@@ -141,6 +146,7 @@ fn walk_queue(z: Size, b: &[u8], k: u16) -> Walked
 }
 
 fn count_queued(z: Size, b: &[u8]) -> u16
+    requires { ⌜ total z ≤ length (now b) ⌝ }
     ensures { λ res. ⌜ res ≡ counted (queued (boardOf z (now (b .entry)))) (z .messages) ⌝ }
 {
     let most = z.messages;
@@ -148,7 +154,7 @@ fn count_queued(z: Size, b: &[u8]) -> u16
     let mut n: u16 = 0;
     while m < most {
         m += 1;
-        let p = place_meant(z, b, m);
+        let p = place_in(z, b, m);
         if let Place::QueuedAt(_) = p {
             n += 1;
         }
@@ -158,6 +164,7 @@ fn count_queued(z: Size, b: &[u8]) -> u16
 
 // Every queue walked, and how many messages they saw together.
 fn walk_queues(z: Size, b: &[u8]) -> Walked
+    requires { ⌜ total z ≤ length (now b) ⌝ }
     ensures { λ res. ⌜ res ≡ walked z (boardOf z (now (b .entry))) (z .tasks) ⌝ }
 {
     let most = z.tasks;
@@ -175,6 +182,7 @@ fn walk_queues(z: Size, b: &[u8]) -> Walked
 }
 
 pub fn rule5(z: Size, b: &[u8]) -> bool
+    requires { ⌜ total z ≤ length (now b) ⌝ }
     ensures { λ res. ⌜ res ≡ each (rule5At z (boardOf z (now (b .entry)))) (z .tasks) ⌝ }
 {
     let walks = walk_queues(z, b);

@@ -1,7 +1,7 @@
 -- What fresh and check answer, by the tests that code makes. Assumes nothing.
 use mathlib.Core.Path.{_≡_, sym, ap, _∙_}
 use mathlib.Core.Logic.{_⊎_, inl, inr}
-use mathlib.Core.Bool.{Bool, true, false, not, cond, true≢false}
+use mathlib.Core.Bool.{Bool, true, false, not, _&&_, cond, true≢false}
 use mathlib.Core.List.{List, [], _∷_}
 use Prim.Native.Nat.{ℕ, _+_, _≤_, _<_}
 use native.Mathlib.Omega.{arith}
@@ -27,6 +27,10 @@ use Rattle.station.specs.Meant.{numberMeant}
 -- an outcome ends as it says
 pub ends : (a : Answer) (l : List ℕ) (o : Outcome) → o ≡ record { answer = a; after = l } → Ends a l o
 ends a l o e = record { answers = sym (ap (λ (x : Outcome). x .answer) e); leaves = sym (ap (λ (x : Outcome). x .after) e) }
+
+-- the answer of a test that the length has passed already is that of the rules
+pub stood : {s t r : Bool} → s ≡ true → r ≡ (s && t) → t ≡ r
+stood {t = t} h e = sym (e ∙ ap (λ (s : Bool). s && t) h)
 
 -- ---- the length
 pub fresh-refused : (l : List ℕ) → eqb (length l) 1476 ≡ false → Ends (Refused WrongLength) l (fresh small l)

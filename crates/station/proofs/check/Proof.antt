@@ -2,13 +2,13 @@ use mathlib.Core.Path.{_≡_, refl, sym, ap, _∙_}
 use denote.Ref.{now}
 use borrow.Author.Tests.{not-true, not-false}
 use Rattle.station.specs.Meant.{numberMeant}
-use Rattle.station.proofs.Answers.{check-length, check-broken, check-passed}
+use Rattle.station.proofs.Answers.{stood, check-length, check-broken, check-passed}
 use borrow.Author.Needs.{needs}
 use Rattle.station.proofs.check.Statement.{statement}
 use Rattle.station.proofs.check.Tie as tie
 use Rattle.station.proofs.check.Reads as reads
 use Rattle.station.proofs.check.Lts as lts
-use Rattle.rules.proofs.passes.Reads as passes-reads
+use Rattle.station.proofs.stands.Reads as stands-reads
 use Rattle.rules.proofs.who.running.Reads as running-reads
 use Rattle.station.proofs.number_of.Reads as number-of-reads
 use Rattle.station.proofs.sized.Reads as sized-reads
@@ -22,12 +22,12 @@ returns : tie.Need-returns
 returns c = check-length (now (c .before .before .before .args .b)) (sym (c .before .sized .ensures) ∙ not-true _ (c .if1 .taken))
 
 -- src/lib.rt:50:9
-passes-requires : tie.Need-passes-requires
-passes-requires c κs = search needs
+stands-requires : tie.Need-stands-requires
+stands-requires c κs = search needs
 
 -- src/lib.rt:51:9
 returns-2 : tie.Need-returns-2
-returns-2 c = check-broken (now (c .before .before .before .before .before .args .b)) (sym (c .before .before .before .sized .ensures) ∙ not-false _ (c .before .before .if1 .left)) (sym (c .before .passes .ensures) ∙ not-true _ (c .if2 .taken))
+returns-2 c = check-broken (now (c .before .before .before .before .before .args .b)) (sym (c .before .before .before .sized .ensures) ∙ not-false _ (c .before .before .if1 .left)) (stood (sym (c .before .before .before .sized .ensures) ∙ not-false _ (c .before .before .if1 .left)) (c .before .stands .ensures) ∙ not-true _ (c .if2 .taken))
 
 -- src/lib.rt:53:9
 running-requires : tie.Need-running-requires
@@ -39,7 +39,7 @@ number-of-requires c κs = search needs
 
 -- src/lib.rt:43:1
 returns-3 : tie.Need-returns-3
-returns-3 c = check-passed (now (c .before .before .before .before .before .before .before .args .b)) _ (sym (c .before .before .before .before .before .sized .ensures) ∙ not-false _ (c .before .before .before .before .if1 .left)) (sym (c .before .before .before .passes .ensures) ∙ not-false _ (c .before .before .if2 .left)) (c .number-of .ensures ∙ ap numberMeant (c .before .running .ensures))
+returns-3 c = check-passed (now (c .before .before .before .before .before .before .before .args .b)) _ (sym (c .before .before .before .before .before .sized .ensures) ∙ not-false _ (c .before .before .before .before .if1 .left)) (stood (sym (c .before .before .before .before .before .sized .ensures) ∙ not-false _ (c .before .before .before .before .if1 .left)) (c .before .before .before .stands .ensures) ∙ not-false _ (c .before .before .if2 .left)) (c .number-of .ensures ∙ ap numberMeant (c .before .running .ensures))
 
 pub check-spec : {M : Type 1} → statement M
 check-spec =
@@ -47,7 +47,7 @@ check-spec =
     (tie.spec
     sized-requires
     returns
-    passes-requires
+    stands-requires
     returns-2
     running-requires
     number-of-requires

@@ -2,6 +2,7 @@ use mathlib.Core.Path.{_≡_, refl, sym, ap, _∙_}
 use denote.Ref.{now}
 use borrow.Author.Tests.{not-true, not-false}
 use Rattle.station.proofs.Fitted.{fitted}
+use Rattle.station.proofs.Answers.{stood}
 use Rattle.station.proofs.Stepping.{step-length, step-broken, step-made}
 use borrow.Author.Needs.{needs}
 use Rattle.station.proofs.step.Statement.{statement}
@@ -9,7 +10,7 @@ use Rattle.station.proofs.step.Tie as tie
 use Rattle.station.proofs.step.Reads as reads
 use Rattle.station.proofs.step.Lts as lts
 use Rattle.dispatch.proofs.make_call.Reads as make-call-reads
-use Rattle.rules.proofs.passes.Reads as passes-reads
+use Rattle.station.proofs.stands.Reads as stands-reads
 use Rattle.station.proofs.sized.Reads as sized-reads
 
 -- src/lib.rt:65:9
@@ -25,8 +26,8 @@ returns : tie.Need-returns
 returns c = step-length (now (c .before .before .before .before .args .b)) (c .before .before .before .before .args .call) (sym (c .before .sized .ensures) ∙ not-true _ (c .if1 .taken))
 
 -- src/lib.rt:69:9
-passes-requires : tie.Need-passes-requires
-passes-requires c κs = search needs
+stands-requires : tie.Need-stands-requires
+stands-requires c κs = search needs
 
 -- src/lib.rt:70:9
 same-length-2 : tie.Need-same-length-2
@@ -34,7 +35,7 @@ same-length-2 c = search needs
 
 -- src/lib.rt:70:9
 returns-2 : tie.Need-returns-2
-returns-2 c = step-broken (now (c .before .before .before .before .before .before .before .args .b)) (c .before .before .before .before .before .before .before .args .call) (sym (c .before .before .before .before .sized .ensures) ∙ not-false _ (c .before .before .before .if1 .left)) (sym (c .before .passes .ensures) ∙ not-true _ (c .if2 .taken))
+returns-2 c = step-broken (now (c .before .before .before .before .before .before .before .args .b)) (c .before .before .before .before .before .before .before .args .call) (sym (c .before .before .before .before .sized .ensures) ∙ not-false _ (c .before .before .before .if1 .left)) (stood (sym (c .before .before .before .before .sized .ensures) ∙ not-false _ (c .before .before .before .if1 .left)) (c .before .stands .ensures) ∙ not-true _ (c .if2 .taken))
 
 -- src/lib.rt:72:5
 make-call-requires : tie.Need-make-call-requires
@@ -46,7 +47,7 @@ same-length-3 c = search needs
 
 -- src/lib.rt:62:1
 returns-3 : tie.Need-returns-3
-returns-3 c = let g = c .before .before .before .before .before .before .before .before .before .before .before .good .1 .0 in step-made (now (c .before .before .before .before .before .before .before .before .before .before .before .args .b)) (c .before .before .before .before .before .before .before .before .before .before .before .args .call) _ _ (sym (c .before .before .before .before .before .before .before .before .sized .ensures) ∙ not-false _ (c .before .before .before .before .before .before .before .if1 .left)) (λ i. c .before .before .before .before .before .before .before .before .before .before .slice-known .given i .fits) (λ i. c .slice-known2 .given i .fits) (fitted (c .before .before .before .before .before .before .before .before .before .before .before .args .call) g) (sym (c .before .before .before .before .before .passes .ensures) ∙ not-false _ (c .before .before .before .before .if2 .left)) (c .before .before .make-call .ensures)
+returns-3 c = let g = c .before .before .before .before .before .before .before .before .before .before .before .good .1 .0 in step-made (now (c .before .before .before .before .before .before .before .before .before .before .before .args .b)) (c .before .before .before .before .before .before .before .before .before .before .before .args .call) _ _ (sym (c .before .before .before .before .before .before .before .before .sized .ensures) ∙ not-false _ (c .before .before .before .before .before .before .before .if1 .left)) (λ i. c .before .before .before .before .before .before .before .before .before .before .slice-known .given i .fits) (λ i. c .slice-known2 .given i .fits) (fitted (c .before .before .before .before .before .before .before .before .before .before .before .args .call) g) (stood (sym (c .before .before .before .before .before .before .before .before .sized .ensures) ∙ not-false _ (c .before .before .before .before .before .before .before .if1 .left)) (c .before .before .before .before .before .stands .ensures) ∙ not-false _ (c .before .before .before .before .if2 .left)) (c .before .before .make-call .ensures)
 
 pub step-spec : {M : Type 1} → statement M
 step-spec =
@@ -55,7 +56,7 @@ step-spec =
     sized-requires
     same-length
     returns
-    passes-requires
+    stands-requires
     same-length-2
     returns-2
     make-call-requires

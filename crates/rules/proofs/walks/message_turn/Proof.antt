@@ -1,97 +1,74 @@
-use mathlib.Core.Path.{ap, _∙_}
+use mathlib.Core.Path.{sym, ap, _∙_}
 use native.Mathlib.Omega.{arith}
 use denote.Ref.{now}
-use Rattle.board.specs.declared.records.Message.{Message}
+use borrow.Author.Tests.{not-true, not-false}
 use Rattle.board.specs.Status.{number}
 use Rattle.board.specs.Board.{boardOf}
 use Rattle.paper.specs.Rules.{nextMessage, messageNumber}
 use Rattle.rules.specs.Walks.{queuedAt}
-use Rattle.rules.proofs.Tests.{queued-nowhere, queued-there, queued-elsewhere}
 use Rattle.rules.proofs.Turns.{turn-strays, turn-falls, turn-goes-on}
 use borrow.Author.Needs.{needs}
 use Rattle.rules.proofs.walks.message_turn.Statement.{statement}
 use Rattle.rules.proofs.walks.message_turn.Tie as tie
 use Rattle.rules.proofs.walks.message_turn.Reads as reads
 use Rattle.rules.proofs.walks.message_turn.Lts as lts
-use Rattle.board.proofs.numbers.TaskNo.number.Reads as numbers-TaskNo-number-reads
-use Rattle.board.proofs.priority.number.Reads as priority-number-reads
-use Rattle.board.proofs.words.message_meant.Reads as message-meant-reads
-use Rattle.board.proofs.words.place_meant.Reads as place-meant-reads
+use Rattle.board.proofs.priority.number.Reads as number-reads
+use Rattle.board.proofs.whole.link_in.Reads as link-in-reads
+use Rattle.board.proofs.whole.prio_in.Reads as prio-in-reads
+use Rattle.board.proofs.whole.queued_in.Reads as queued-in-reads
 
--- src/walks.rt:99:9
-place-meant-requires : tie.Need-place-meant-requires
-place-meant-requires c κs = search needs
+-- src/walks.rt:108:9
+queued-in-requires : tie.Need-queued-in-requires
+queued-in-requires c κs = search needs
 
--- src/walks.rt:100:25
-enum-known-p : tie.Need-enum-known-p
-enum-known-p c = search needs
-
--- src/walks.rt:101:9
+-- src/walks.rt:109:9
 returns : tie.Need-returns
 returns c =
     let a = c .before .before .before .args in
     let b = boardOf (a .z) (now (a .b)) in
-    let p = c .before .place-meant in
     turn-strays (nextMessage b) (messageNumber b) (queuedAt b (a .k)) (a .m) (a .low)
-    (queued-nowhere _ (p .result) (p .ensures) (a .k) (c .match .keys2))
+    (sym (c .before .queued-in .ensures) ∙ not-true _ (c .if1 .taken))
 
--- src/walks.rt:103:8
+-- src/walks.rt:111:20
+prio-in-requires : tie.Need-prio-in-requires
+prio-in-requires c κs = search needs
+
+-- src/walks.rt:111:9
 number-requires : tie.Need-number-requires
 number-requires c κs = search needs
 
--- src/walks.rt:104:9
+-- src/walks.rt:113:9
 returns-2 : tie.Need-returns-2
 returns-2 c =
-    let a = c .before .before .before .before .before .before .before .args in
+    let q = c .before .before .before .before in
+    let a = q .before .before .args in
     let b = boardOf (a .z) (now (a .b)) in
-    let p = c .before .before .before .before .before .place-meant in
-    turn-strays (nextMessage b) (messageNumber b) (queuedAt b (a .k)) (a .m) (a .low)
-    (queued-elsewhere _ (p .result) (p .ensures) (a .k) _ _ (c .before .before .before .p .given .1) (c .before .number .ensures)
-    (c .if1 .taken))
+    turn-falls (nextMessage b) (messageNumber b) (queuedAt b (a .k)) (a .m) (a .low) _
+    (sym (q .queued-in .ensures) ∙ not-false _ (c .before .before .before .if1 .left))
+    (c .before .number .ensures ∙ ap number (c .before .before .prio-in .ensures)) (omega arith)
 
--- src/walks.rt:106:9
-message-meant-requires : tie.Need-message-meant-requires
-message-meant-requires c κs = search needs
+-- src/walks.rt:116:15
+link-in-requires : tie.Need-link-in-requires
+link-in-requires c κs = search needs
 
--- src/walks.rt:107:9
-number-requires-2 : tie.Need-number-requires-2
-number-requires-2 c κs = search needs
-
--- src/walks.rt:109:9
+-- src/walks.rt:104:1
 returns-3 : tie.Need-returns-3
 returns-3 c =
-    let a = c .before .before .before .before .before .before .before .before .before .before .args in
+    let q = c .before .before .before .before .before in
+    let a = q .before .before .args in
     let b = boardOf (a .z) (now (a .b)) in
-    let p = c .before .before .before .before .before .before .before .before .place-meant in
-    let e = queued-there _ (p .result) (p .ensures) (a .k) _ _ (c .before .before .before .before .before .before .p .given .1)
-    (c .before .before .before .before .number .ensures) (c .before .before .before .if1 .left) in
-    let t = c .before .before .message-meant in
-    turn-falls (nextMessage b) (messageNumber b) (queuedAt b (a .k)) (a .m) (a .low) _ e
-    (c .before .number2 .ensures ∙ ap (λ (r : Message). number (r .prio)) (t .ensures)) (omega arith)
-
--- src/walks.rt:96:1
-returns-4 : tie.Need-returns-4
-returns-4 c =
-    let a = c .before .before .before .before .before .before .before .before .before .before .args in
-    let b = boardOf (a .z) (now (a .b)) in
-    let p = c .before .before .before .before .before .before .before .before .place-meant in
-    let e = queued-there _ (p .result) (p .ensures) (a .k) _ _ (c .before .before .before .before .before .before .p .given .1)
-    (c .before .before .before .before .number .ensures) (c .before .before .before .if1 .left) in
-    let t = c .before .before .message-meant in
-    turn-goes-on (nextMessage b) (messageNumber b) (queuedAt b (a .k)) (a .m) (a .low) _ _ e
-    (ap (λ (r : Message). r .link) (t .ensures))
-    (c .before .number2 .ensures ∙ ap (λ (r : Message). number (r .prio)) (t .ensures)) (omega arith)
+    turn-goes-on (nextMessage b) (messageNumber b) (queuedAt b (a .k)) (a .m) (a .low) _ _
+    (sym (q .queued-in .ensures) ∙ not-false _ (c .before .before .before .before .if1 .left)) (c .link-in .ensures)
+    (c .before .before .number .ensures ∙ ap number (c .before .before .before .prio-in .ensures)) (omega arith)
 
 pub message-turn-spec : {M : Type 1} → statement M
 message-turn-spec =
     tie.close
     (tie.spec
-    place-meant-requires
-    enum-known-p
+    queued-in-requires
     returns
+    prio-in-requires
     number-requires
     returns-2
-    message-meant-requires
-    number-requires-2
-    returns-3
-    returns-4)
+    link-in-requires
+    returns-3)
