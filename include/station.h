@@ -1,10 +1,11 @@
-/* The station's board: tasks, message blocks and queues in 1,476 bytes that the caller lends.
+/* The station's board: tasks, message blocks and queues in 1,476 bytes that the caller lends. For C11 and C++.
  *
- * Link with target/staticlib/libstation.a, which `rt staticlib station` writes. No function keeps anything between calls, allocates, or
- * touches a byte outside the lent ones. Any bytes and any arguments are safe to hand over: what cannot be done is refused with a number
- * and changes nothing. One writer at a time is the caller's business.
+ * Link with target/staticlib/libstation.a, which `rt staticlib station` writes. No function keeps anything between calls,
+ * allocates, or touches a byte outside the lent ones. Any bytes and any arguments are safe to hand over: what cannot be done is
+ * refused with a number and changes nothing. One writer at a time is the caller's business.
  *
- * Tasks are numbered 1 to 32 and messages 1 to 128; 0 is none. */
+ * Tasks are numbered 1 to 32 and messages 1 to 128; 0 is none. Names in capitals (STAT, PRIO, RPTR ..) are the fields of the
+ * MITE-80 manual, 3.2 and 3.3; examples/c/shore_station.c is a small program with them. */
 #ifndef STATION_H
 #define STATION_H
 
@@ -14,6 +15,10 @@
 #define STATION_BYTES 1476 /* of a board */
 #define STATION_TASKS 32
 #define STATION_MESSAGES 128
+
+#ifdef __cplusplus
+extern "C" {
+#endif
 
 /* ---- what is linked: packed answers, for use through the wrappers below */
 uint64_t station_fresh(uint8_t *board, size_t len);
@@ -52,7 +57,8 @@ enum {
     STATION_NO_CALL = 255 /* station_call with a kind that is no call */
 };
 
-/* ---- an answer: refused with a number, or accepted (0) with a value, the task that runs and the message it was handed, 0 for none */
+/* ---- an answer: refused with a number, or accepted (0) with a value, the task that runs and the message it was handed.
+ * The value is what find, claim and receive give, else 0; 0 is no task and no message. */
 typedef struct {
     uint8_t refusal;
     uint16_t value;
@@ -66,68 +72,127 @@ static inline station_answer station_unpack(uint64_t word)
     return answer;
 }
 
-/* ---- a board: all zeros, without tasks; and whether one can exist */
+/* a refusal in words */
+static inline const char *station_reason(uint8_t refusal)
+{
+    switch (refusal) {
+    case STATION_ACCEPTED: return "accepted";
+    case STATION_WRONG_LENGTH: return "the board isn't 1,476 bytes";
+    case STATION_RULE_BROKEN: return "such a board cannot exist";
+    case STATION_NOBODY_RUNS: return "no task is running";
+    case STATION_NO_SUCH_MESSAGE: return "there is no message of that number";
+    case STATION_NOT_HELD: return "the running task doesn't hold the message";
+    case STATION_NO_SUCH_TASK: return "there is no such task";
+    case STATION_BAD_PRIORITY: return "the priority can't be used here";
+    case STATION_NOT_INSTALLABLE: return "no task of that number, or it is in use";
+    case STATION_BAD_STATUS: return "a task can't be installed with that status";
+    case STATION_TASK_BUSY: return "the task has a message or waits for an interrupt";
+    case STATION_NONE_FREE: return "no message is free";
+    case STATION_NOT_QUEUED: return "the message isn't in that task's queue";
+    case STATION_NOT_ITS_SENDER: return "the running task isn't the message's sender";
+    case STATION_BAD_SENDER: return "the sender is no task number";
+    case STATION_NOTHING_TO_DELIVER: return "there is nothing to deliver";
+    case STATION_NO_CALL: return "no call is of that kind";
+    default: return "no refusal has that number";
+    }
+}
+
+/* ---- a PRIO byte: priority 0 (most urgent) to 127, and where among equals: FIFO behind them, LIFO before them */
+enum { STATION_SENDERS_OWN = 127 }; /* as a message's priority: send puts the sender's own there */
+
+static inline uint8_t station_fifo(uint8_t priority)
+{
+    return (uint8_t)(2 * priority + 1);
+}
+
+static inline uint8_t station_lifo(uint8_t priority)
+{
+    return (uint8_t)(2 * priority);
+}
+
+/* ---- a board */
+
+/* The board becomes all zeros, whatever it held: no task, every message free. Refused: WRONG_LENGTH. */
 static inline station_answer station_make_fresh(uint8_t *board, size_t len)
 {
     return station_unpack(station_fresh(board, len));
 }
 
+/* Can this board exist? Tells who runs, and writes nothing. Refused: WRONG_LENGTH, RULE_BROKEN. */
 static inline station_answer station_look(const uint8_t *board, size_t len)
 {
     return station_unpack(station_check(board, len));
 }
 
-static inline station_answer station_ask(uint8_t *board, size_t len, uint8_t kind, uint16_t a, uint16_t b, uint16_t c, uint8_t stat, uint8_t prio)
+/* The call of that kind; the wrappers below name its arguments. Refused: NO_CALL where there is none, else as the call is. */
+static inline station_answer station_ask(uint8_t *board, size_t len, uint8_t kind, uint16_t a, uint16_t b, uint16_t c,
+                                         uint8_t stat, uint8_t prio)
 {
     return station_unpack(station_call(board, len, kind, a, b, c, stat, prio));
 }
 
-/* ---- the nineteen calls, in document 01's order. 'It' is the running task. After each, the task that runs is told, and if it was due a
- * message it has been handed its first one. PRIO is twice the priority, 0 being the most urgent, plus 1 for FIFO among equals. */
+/* ---- the nineteen calls, with their numbers in document 01 and their names in the manual, section 4.
+ *
+ * 'It' is the running task: the first in queue order that waits for nothing. Install, post and find serve anyone; the rest act
+ * for it and are refused with NOBODY_RUNS where there is none. All are refused with WRONG_LENGTH and RULE_BROKEN where the board
+ * is no board, so the comments below name the other refusals only. The lowest that applies is given.
+ *
+ * After each accepted call the answer tells the task that runs now, which may be another; if it was due a message (MHBS), it
+ * has been handed the first of its queue, told as delivered. */
 
-/* task k is installed: STAT 01H, with DEBUG and MROB as one likes; PRIO 03H to FDH and odd; SPTR and NAME as one likes */
-static inline station_answer station_install(uint8_t *board, size_t len, uint16_t k, uint8_t stat, uint8_t prio, uint16_t sptr, uint16_t name)
+/* 1 Install (M8SN to the task queue): task k is there, behind those of equal priority. STAT is TCBB, with DEBUG and MROB as
+ * one likes; PRIO is odd, 03H to FDH; SPTR and NAME are any words. Refused: BAD_PRIORITY, NOT_INSTALLABLE, BAD_STATUS. */
+static inline station_answer station_install(uint8_t *board, size_t len, uint16_t k, uint8_t stat, uint8_t prio, uint16_t sptr,
+                                             uint16_t name)
 {
     return station_ask(board, len, 1, k, sptr, name, stat, prio);
 }
 
-/* an interrupt for task k: it runs on if it waits for one, else the interrupt is queued */
+/* 2 Post interrupt (M8PINT): task k goes on if it waits for an interrupt (IWAT), else one is queued for it (INTQ), and
+ * never more than one. Refused: NO_SUCH_TASK. */
 static inline station_answer station_post_interrupt(uint8_t *board, size_t len, uint16_t k)
 {
     return station_ask(board, len, 2, k, 0, 0, 0, 0);
 }
 
-/* the value is the first task of that name in queue order, 0 if none */
+/* 3 Find (M8FIND): the value is the first task of that NAME in queue order, 0 if there is none. */
 static inline station_answer station_find(uint8_t *board, size_t len, uint16_t name)
 {
     return station_ask(board, len, 3, name, 0, 0, 0, 0);
 }
 
-/* task k is taken out; it must hold no message, have none queued and not wait for an interrupt */
+/* 4 Cancel task (M8CAN at the task queue): task k is gone; it may be the running one. It must have no message, queued or held,
+ * and not wait for an interrupt. Refused: NO_SUCH_TASK, TASK_BUSY. */
 static inline station_answer station_cancel_task(uint8_t *board, size_t len, uint16_t k)
 {
     return station_ask(board, len, 4, k, 0, 0, 0, 0);
 }
 
-/* it holds the lowest free message from now on, which is the value */
+/* 5 Claim: it holds the free message of the lowest number, which is the value; all its fields are 0. Refused: NONE_FREE. */
 static inline station_answer station_claim(uint8_t *board, size_t len)
 {
     return station_ask(board, len, 5, 0, 0, 0, 0, 0);
 }
 
-/* the message it holds gets STAT, PRIO and a sender; PRIO FEH or FFH asks for the sender's own priority when sent */
+/* 6 Prepare: message m, which it holds, gets these fields. STAT is any byte, PRIO as station_fifo or station_lifo gives; SPTR
+ * is the task that a return goes to, 0 for whoever sends it. Refused: NO_SUCH_MESSAGE, NOT_HELD, BAD_SENDER. */
 static inline station_answer station_prepare(uint8_t *board, size_t len, uint16_t m, uint8_t stat, uint8_t prio, uint16_t sptr)
 {
     return station_ask(board, len, 6, m, sptr, 0, stat, prio);
 }
 
-/* the message it holds is cleared and free */
+/* 7 Release: message m, which it holds, is all zeros and free. Refused: NO_SUCH_MESSAGE, NOT_HELD. */
 static inline station_answer station_release(uint8_t *board, size_t len, uint16_t m)
 {
     return station_ask(board, len, 7, m, 0, 0, 0, 0);
 }
 
-/* the message it holds goes to task r; the wait form then waits for a message */
+/* ---- 8 to 15: message m, which it holds, goes into a task's queue by its PRIO, whose bit 0 is set then (FIFO from now on). A
+ * receiver that waits for a message (WAIT) is ready again and due one (MHBS). The receiver may be the running task itself. The
+ * wait forms go on as receive and wait does (17). */
+
+/* 8, 9 Send (M8SN, M8SNW): m goes to task r. RPTR becomes r; SPTR becomes the running task if it was 0; priority 127 becomes
+ * the running task's. Refused: NO_SUCH_MESSAGE, NOT_HELD, NO_SUCH_TASK. */
 static inline station_answer station_send(uint8_t *board, size_t len, uint16_t m, uint16_t r)
 {
     return station_ask(board, len, 8, m, r, 0, 0, 0);
@@ -138,7 +203,8 @@ static inline station_answer station_send_and_wait(uint8_t *board, size_t len, u
     return station_ask(board, len, 9, m, r, 0, 0, 0);
 }
 
-/* .. goes to its receiver once more */
+/* 10, 11 Resend (M8RSN, M8RSNW): m goes to the task in its RPTR, the one it was last sent to. It can't have priority 127.
+ * Refused: NO_SUCH_MESSAGE, NOT_HELD, NO_SUCH_TASK, BAD_PRIORITY. */
 static inline station_answer station_resend(uint8_t *board, size_t len, uint16_t m)
 {
     return station_ask(board, len, 10, m, 0, 0, 0, 0);
@@ -149,7 +215,8 @@ static inline station_answer station_resend_and_wait(uint8_t *board, size_t len,
     return station_ask(board, len, 11, m, 0, 0, 0, 0);
 }
 
-/* .. goes on to task r, and its receiver stays written in it */
+/* 12, 13 Forward (M8FWD, M8FWDW): m goes to task r, and neither RPTR nor SPTR changes. It can't have priority 127.
+ * Refused: NO_SUCH_MESSAGE, NOT_HELD, NO_SUCH_TASK, BAD_PRIORITY. */
 static inline station_answer station_forward(uint8_t *board, size_t len, uint16_t m, uint16_t r)
 {
     return station_ask(board, len, 12, m, r, 0, 0, 0);
@@ -160,7 +227,8 @@ static inline station_answer station_forward_and_wait(uint8_t *board, size_t len
     return station_ask(board, len, 13, m, r, 0, 0, 0);
 }
 
-/* .. goes back to its sender */
+/* 14, 15 Return (M8RET, M8RETW): m goes to its sender, the task in its SPTR; neither RPTR nor SPTR changes. It can't have
+ * priority 127. Refused: NO_SUCH_MESSAGE, NOT_HELD, NO_SUCH_TASK, BAD_PRIORITY. */
 static inline station_answer station_return(uint8_t *board, size_t len, uint16_t m)
 {
     return station_ask(board, len, 14, m, 0, 0, 0, 0);
@@ -171,28 +239,35 @@ static inline station_answer station_return_and_wait(uint8_t *board, size_t len,
     return station_ask(board, len, 15, m, 0, 0, 0, 0);
 }
 
-/* it holds the first message of its queue, which is the value, 0 if none */
+/* 16 Receive (M8RCV): it holds the first message of its queue, which is the value; 0 if the queue is empty. */
 static inline station_answer station_receive(uint8_t *board, size_t len)
 {
     return station_ask(board, len, 16, 0, 0, 0, 0, 0);
 }
 
-/* it waits until a message has come; the message is told as delivered when it runs again */
+/* 17 Receive and wait (M8RCVW): with a message queued, it goes on and has been handed the first; else it waits for one (WAIT) and
+ * another task runs. Either way the message is told as delivered when it runs, and not as the value. */
 static inline station_answer station_receive_and_wait(uint8_t *board, size_t len)
 {
     return station_ask(board, len, 17, 0, 0, 0, 0, 0);
 }
 
-/* message m, which it sent, is taken out of task r's queue, and it holds it again */
+/* 18 Cancel message (M8CAN): message m, whose SPTR is the running task, is taken out of task r's queue, and the running task
+ * holds it. If r was due a message and has none left, it waits again. Refused: NO_SUCH_MESSAGE, NO_SUCH_TASK, NOT_QUEUED,
+ * NOT_ITS_SENDER. */
 static inline station_answer station_cancel_message(uint8_t *board, size_t len, uint16_t m, uint16_t r)
 {
     return station_ask(board, len, 18, m, r, 0, 0, 0);
 }
 
-/* it waits for an interrupt, unless one is queued */
+/* 19 Wait for interrupt (M8WINT): with one queued (INTQ), that one is used up and it goes on; else it waits for one (IWAT). */
 static inline station_answer station_wait_for_interrupt(uint8_t *board, size_t len)
 {
     return station_ask(board, len, 19, 0, 0, 0, 0, 0);
 }
+
+#ifdef __cplusplus
+}
+#endif
 
 #endif

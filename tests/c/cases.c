@@ -1,26 +1,17 @@
 /* The cases of tests/cases through include/station.h and the static library, every call by its own wrapper, with guard bytes around the
  * board. It reads and writes what the program run_cases does: a case is the length as a word, a call of nine bytes (kind, three words,
- * STAT, PRIO; kind 0 checks the board, kind 20 makes it fresh) and the board; an answer is a line. The four functions of the C library
- * are declared here, so that no headers are needed where this is compiled for another machine. */
-#include "../../include/station.h"
+ * STAT, PRIO; kind 0 checks the board, kind 20 makes it fresh) and the board; an answer is a line. */
+#include <stdio.h>
+#include <string.h>
 
-extern long read(int file, void *to, size_t most);
-extern int printf(const char *form, ...);
-extern void *memcpy(void *to, const void *from, size_t n);
-extern void *memset(void *to, int value, size_t n);
+#include "station.h"
 
 enum { GUARD = 64, MOST = 65536, MARK = 0xA5 };
 static uint8_t before[MOST], area[GUARD + MOST + GUARD];
 
 static int read_full(uint8_t *to, size_t n)
 {
-    size_t got = 0;
-    while (got < n) {
-        long more = read(0, to + got, n - got);
-        if (more <= 0) return 0;
-        got += (size_t)more;
-    }
-    return 1;
+    return fread(to, 1, n, stdin) == n;
 }
 
 static station_answer answer_to(const uint8_t *head, uint8_t *b, size_t n)

@@ -1,0 +1,59 @@
+//! The station's board: tasks, message blocks and queues in 1,476 bytes, and the nineteen calls on it.
+//!
+//! The work is done by the library `station`, which is proved to do exactly what document 01 says: each call, on any bytes and
+//! any arguments, ends with an answer and touches nothing but the board. This crate gives its calls their types.
+//!
+//! A [`Board`] is owned, or lent from a longer buffer of any length without a copy ([`Board::lent`]). Names in capitals are the
+//! fields of the MITE-80 manual, 3.2 and 3.3.
+//!
+//! ```
+//! use station::{Board, Prio, Refusal, Status, TaskNo};
+//!
+//! # fn main() -> Result<(), Refusal> {
+//! const LOGGER: TaskNo = TaskNo(1);
+//! const SAMPLER: TaskNo = TaskNo(2);
+//! let name = u16::from_le_bytes;
+//!
+//! let mut board = Board::fresh();
+//! board.install(LOGGER, Status::TCBB, Prio::fifo(10), 0, name(*b"LG"))?;
+//! board.install(SAMPLER, Status::TCBB, Prio::fifo(25), 0, name(*b"S1"))?;
+//!
+//! // the logger is the more urgent; it waits, so the sampler runs
+//! let told = board.receive_and_wait()?;
+//! assert_eq!(told.running, Some(SAMPLER));
+//!
+//! // the sampler sends a message: the logger runs and has been handed it
+//! let m = board.claim()?.value;
+//! board.prepare(m, 0, Prio::fifo(Prio::SENDERS_OWN), None)?;
+//! let told = board.send(m, LOGGER)?;
+//! assert_eq!(told.running, Some(LOGGER));
+//! assert_eq!(told.delivered, Some(m));
+//!
+//! // a call that cannot be done is refused, and the board is as it was
+//! assert_eq!(board.send(m, TaskNo(33)), Err(Refusal::NoSuchTask));
+//! board.release(m)?;
+//! # Ok(())
+//! # }
+//! ```
+#![no_std]
+#![deny(missing_docs, unsafe_code)]
+
+#[cfg(feature = "std")]
+extern crate std;
+
+mod answer;
+mod board;
+#[allow(unsafe_code)]
+mod sys;
+mod words;
+
+pub use answer::{Accepted, Answer, Refusal};
+pub use board::Board;
+pub use words::{MsgNo, Prio, Status, TaskNo};
+
+/// The bytes of a board.
+pub const BYTES: usize = 1476;
+/// Tasks are numbered 1 to this.
+pub const TASKS: u16 = 32;
+/// Messages are numbered 1 to this.
+pub const MESSAGES: u16 = 128;

@@ -1,0 +1,136 @@
+//! Each refusal that can be given, and that it changes nothing.
+mod common;
+use common::{tasks, written};
+use station::{Board, MsgNo, Prio, Refusal, Status, TaskNo};
+use Refusal::*;
+
+const LONE: TaskNo = TaskNo(1);
+const FIRST: MsgNo = MsgNo(1);
+
+/// The call is refused so, and the board is as it was.
+fn refused<T>(board: &Board, want: Refusal, call: impl Fn(&mut Board) -> Result<T, Refusal>) {
+    let mut after = board.clone();
+    assert_eq!(call(&mut after).err(), Some(want));
+    assert_eq!(&after, board, "{want}");
+}
+
+fn install(k: u16, stat: Status, prio: Prio) -> impl Fn(&mut Board) -> station::Answer {
+    move |b| b.install(TaskNo(k), stat, prio, 0, 0)
+}
+
+#[test]
+fn a_board_that_is_none() {
+    let mut broken = tasks(&[25]).into_bytes();
+    broken[1] = 1;
+    refused(&Board::lent(broken), RuleBroken, |b| b.claim());
+    refused(&Board::lent(broken), RuleBroken, |b| b.check());
+    let mut short = [0; 1475];
+    assert_eq!(Board::lent(&mut short[..]).make_fresh(), Err(WrongLength));
+}
+
+#[test]
+fn nobody_runs() {
+    refused(&Board::fresh(), NobodyRuns, |b| b.claim());
+    refused(&Board::fresh(), NobodyRuns, |b| b.cancel_task(TaskNo(33))); // the lowest that applies
+}
+
+#[test]
+fn no_such_message_or_not_held() {
+    let board = tasks(&[25]);
+    for m in [0, 129, 0xFFFF] {
+        refused(&board, NoSuchMessage, |b| b.send(MsgNo(m), TaskNo(0)));
+        refused(&board, NoSuchMessage, |b| b.prepare(MsgNo(m), 0, Prio(0), None));
+        refused(&board, NoSuchMessage, |b| b.cancel_message(MsgNo(m), TaskNo(0)));
+    }
+    refused(&board, NotHeld, |b| b.release(FIRST));
+    refused(&board, NotHeld, |b| b.return_message(MsgNo(128)));
+}
+
+#[test]
+fn no_such_task() {
+    let mut board = tasks(&[25]);
+    written(&mut board, Prio::fifo(9));
+    for k in [0, 2, 33, 257, 0xFFFF] {
+        refused(&board, NoSuchTask, |b| b.post_interrupt(TaskNo(k)));
+        refused(&board, NoSuchTask, |b| b.cancel_task(TaskNo(k)));
+        refused(&board, NoSuchTask, |b| b.send(FIRST, TaskNo(k)));
+        refused(&board, NoSuchTask, |b| b.forward_and_wait(FIRST, TaskNo(k)));
+    }
+    refused(&board, NoSuchTask, |b| b.resend(FIRST)); // never sent: RPTR is 0
+    refused(&board, NoSuchTask, |b| b.return_message(FIRST));
+}
+
+#[test]
+fn bad_priority() {
+    for prio in [0x00, 0x01, 0x02, 0x32, 0xFE, 0xFF] {
+        refused(&Board::fresh(), BadPriority, install(1, Status::TCBB, Prio(prio)));
+    }
+    let mut board = tasks(&[25]);
+    written(&mut board, Prio::fifo(Prio::SENDERS_OWN));
+    refused(&board, BadPriority, |b| b.forward(FIRST, LONE));
+}
+
+#[test]
+fn not_installable_or_bad_status() {
+    let board = tasks(&[25]);
+    for k in [0, 1, 33, 257] {
+        refused(&board, NotInstallable, install(k, Status(0), Prio::fifo(1)));
+    }
+    let bits = [Status::WAIT, Status::IWAT, Status(0x20), Status::INTQ, Status::MHBS];
+    for stat in bits.map(|bit| Status::TCBB | bit).into_iter().chain([Status::DEBUG]) {
+        refused(&board, BadStatus, install(2, stat, Prio::fifo(1)));
+    }
+}
+
+#[test]
+fn a_busy_task() {
+    let mut board = tasks(&[25, 30]);
+    board.claim().unwrap();
+    refused(&board, TaskBusy, |b| b.cancel_task(LONE)); // holds one
+    board.send(FIRST, TaskNo(2)).unwrap();
+    refused(&board, TaskBusy, |b| b.cancel_task(TaskNo(2))); // has one queued
+    board.wait_for_interrupt().unwrap();
+    refused(&board, TaskBusy, |b| b.cancel_task(LONE)); // waits for an interrupt
+}
+
+#[test]
+fn none_free() {
+    let mut board = tasks(&[25]);
+    while board.claim().is_ok() {}
+    refused(&board, NoneFree, |b| b.claim());
+}
+
+#[test]
+fn a_message_that_cannot_be_cancelled() {
+    let mut board = tasks(&[25]);
+    let m = board.claim().unwrap().value;
+    refused(&board, NotQueued, |b| b.cancel_message(m, LONE));
+    board.prepare(m, 0, Prio::fifo(9), Some(TaskNo(2))).unwrap();
+    board.send(m, LONE).unwrap();
+    refused(&board, NotItsSender, |b| b.cancel_message(m, LONE));
+}
+
+#[test]
+fn a_bad_sender() {
+    let mut board = tasks(&[25]);
+    let m = board.claim().unwrap().value;
+    refused(&board, BadSender, |b| b.prepare(m, 0, Prio(0), Some(TaskNo(33))));
+    board.prepare(m, 0xFF, Prio(0), Some(TaskNo(32))).unwrap(); // absent, but a task number
+}
+
+#[test]
+fn numbers_and_words() {
+    for (number, refusal) in (1..).zip(Refusal::ALL) {
+        assert_eq!(refusal.number(), number);
+        assert_eq!(Refusal::from_number(number), Some(refusal));
+    }
+    assert_eq!([0, 16, 255].map(Refusal::from_number), [None; 3]);
+    assert_eq!(NoSuchTask.to_string(), "there is no such task (refusal 6)");
+}
+
+#[cfg(feature = "std")]
+#[test]
+fn a_refusal_is_an_error() {
+    let error: Box<dyn std::error::Error> = NoneFree.into();
+    assert_eq!(error.to_string(), "no message is free (refusal 11)");
+}
