@@ -20,27 +20,27 @@ use Rattle.board.proofs.Pieces.{outside-within, within-outside, outside
 use Rattle.board.proofs.Access.{message-beyond, message-reads}
 use Rattle.board.proofs.Codec.{place-free, place-held, place-receiver, place-nowhere}
 
--- ---- LINK and PRIO of message m, where the field lies at o
-module _ (z : Size) (l : List ℕ) (m o : ℕ) where
+-- ---- LINK and PRIO of message m, which the code holds as n, where the field lies at o
+module _ (z : Size) (l : List ℕ) (m n : ℕ) (e : n ≡ m) where
   -- a field beyond the last message is 0
-  pub link-beyond : z .messages < m → 0 ≡ message (boardOf z l) m .link
-  link-beyond h = ap (λ (r : Message). r .link) (message-beyond z l m m noMessage refl h refl)
+  pub link-beyond : z .messages < n → 0 ≡ message (boardOf z l) m .link
+  link-beyond h = ap (λ (r : Message). r .link) (message-beyond z l m n noMessage e h refl)
 
-  pub prio-beyond : z .messages < m → 0 ≡ message (boardOf z l) m .prio
-  prio-beyond h = ap (λ (r : Message). r .prio) (message-beyond z l m m noMessage refl h refl)
+  pub prio-beyond : z .messages < n → 0 ≡ message (boardOf z l) m .prio
+  prio-beyond h = ap (λ (r : Message). r .prio) (message-beyond z l m n noMessage e h refl)
 
-  module _ (n : m ≢ 0) (h : m ≤ z .messages) where
-    pub link-reads : (x : ℕ) → o ≡ 10 * z .tasks + m * 8 - 2 → x ≡ wordAt l o → x ≡ message (boardOf z l) m .link
-    link-reads x e f =
-        let s : o ≡ 10 * z .tasks + m * 8 - 4 + 2 = omega arith in
-        f ∙ ap (wordAt l) s ∙ ap (λ (r : Message). r .link)
-        (message-reads z l m m (10 * z .tasks + m * 8 - 4) _ _ _ _ _ refl n h refl refl refl refl refl refl)
+  module _ (o x : ℕ) (f : n ≢ 0) (h : n ≤ z .messages) where
+    pub link-reads : o ≡ 10 * z .tasks + n * 8 - 2 → x ≡ wordAt l o → x ≡ message (boardOf z l) m .link
+    link-reads q g =
+        let s : o ≡ 10 * z .tasks + n * 8 - 4 + 2 = omega arith in
+        g ∙ ap (wordAt l) s
+        ∙ ap (λ (r : Message). r .link) (message-reads z l m n (10 * z .tasks + n * 8 - 4) _ _ _ _ _ e f h refl refl refl refl refl refl)
 
-    pub prio-reads : (x : ℕ) → o ≡ 10 * z .tasks + m * 8 - 3 → x ≡ getD l o 0 → x ≡ message (boardOf z l) m .prio
-    prio-reads x e f =
-        let s : o ≡ 10 * z .tasks + m * 8 - 4 + 1 = omega arith in
-        f ∙ ap (λ (i : ℕ). getD l i 0) s ∙ ap (λ (r : Message). r .prio)
-        (message-reads z l m m (10 * z .tasks + m * 8 - 4) _ _ _ _ _ refl n h refl refl refl refl refl refl)
+    pub prio-reads : o ≡ 10 * z .tasks + n * 8 - 3 → x ≡ getD l o 0 → x ≡ message (boardOf z l) m .prio
+    prio-reads q g =
+        let s : o ≡ 10 * z .tasks + n * 8 - 4 + 1 = omega arith in
+        g ∙ ap (λ (i : ℕ). getD l i 0) s
+        ∙ ap (λ (r : Message). r .prio) (message-reads z l m n (10 * z .tasks + n * 8 - 4) _ _ _ _ _ e f h refl refl refl refl refl refl)
 
 -- ---- the place byte p and the task k
 module _ (z : Size) (k p : ℕ) where

@@ -7,5 +7,4 @@ pub mod places;
 pub mod priority;
 pub mod records;
 pub mod status;
-pub mod whole;
 pub mod words;

@@ -1,5 +1,8 @@
 // CODE. The wait, the nineteen bodies behind one match, and dispatch, which ends every accepted call: a call on a board that passes.
 ghost use mathlib.Core.Path.{_≡_};
+ghost use Prim.Native.Nat.{_≤_};
+ghost use lib.ListN.{length};
+ghost use Rattle.board.specs.Board.{total};
 ghost use Rattle.paper.specs.declared.call.Call.the-variants as calls;
 ghost use Rattle.paper.specs.Step.{Ends};
 ghost use Rattle.inner.specs.Stores.{waitsIn, Makes, stepping, finish, calledIn};
@@ -36,6 +39,7 @@ use task_calls::wait_for_interrupt;
 
 // Task c is due a message if one is queued at it, else it waits for one.
 fn wait(z: Size, b: &mut [u8], c: TaskNo)
+    requires { ⌜ total z ≤ length (now b) ⌝ }
     ensures { λ _. ⌜ now (b .exit) ≡ waitsIn z (now (b .entry)) (c .0) ⌝ }
 {
     let t = task_at(z, b, c);
@@ -48,6 +52,7 @@ fn wait(z: Size, b: &mut [u8], c: TaskNo)
 
 // The wait of a wait form, behind its placing; a refusal is passed on.
 fn then_wait(z: Size, b: &mut [u8], placed: Placed) -> Step
+    requires { ⌜ total z ≤ length (now b) ⌝ }
     ensures { λ res. ⌜ Makes res (now (b .exit)) (waiting z placed (now (b .entry))) ⌝ }
 {
     let Placed::By(c) = placed else {
@@ -58,6 +63,7 @@ fn then_wait(z: Size, b: &mut [u8], placed: Placed) -> Step
 }
 
 fn receive_and_wait(z: Size, b: &mut [u8]) -> Step
+    requires { ⌜ total z ≤ length (now b) ⌝ }
     ensures { λ res. ⌜ Makes res (now (b .exit)) (stepping z (now (b .entry)) calls.ReceiveAndWait) ⌝ }
 {
     let who = running(z, b);
@@ -70,6 +76,7 @@ fn receive_and_wait(z: Size, b: &mut [u8]) -> Step
 
 // The body of a call, its refusals tested first.
 fn body(z: Size, b: &mut [u8], call: Call) -> Step
+    requires { ⌜ total z ≤ length (now b) ⌝ }
     ensures { λ res. ⌜ Makes res (now (b .exit)) (stepping z (now (b .entry)) call) ⌝ }
 {
     match call {
@@ -134,6 +141,7 @@ fn stopped(step: Step) -> Answer
 
 // The running task, if it is due a message, is handed its first one. The refusal of a step is passed on.
 fn dispatch(z: Size, b: &mut [u8], step: Step) -> Answer
+    requires { ⌜ total z ≤ length (now b) ⌝ }
     ensures { λ res. ⌜ Ends res (now (b .exit)) (finish z step (now (b .entry))) ⌝ }
 {
     let Step::Done(value) = step else {
@@ -170,6 +178,7 @@ fn dispatch(z: Size, b: &mut [u8], step: Step) -> Answer
 
 // A call on a board that passes, whatever its arguments.
 pub fn make_call(z: Size, b: &mut [u8], call: Call) -> Answer
+    requires { ⌜ total z ≤ length (now b) ⌝ }
     ensures { λ res. ⌜ Ends res (now (b .exit)) (calledIn z (now (b .entry)) call) ⌝ }
 {
     let step = body(z, b, call);

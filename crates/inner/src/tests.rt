@@ -1,6 +1,8 @@
 // Refusals 3 to 6, which many calls share.
 ghost use mathlib.Core.Path.{_≡_};
-ghost use Rattle.board.specs.Board.{boardOf};
+ghost use Prim.Native.Nat.{_≤_};
+ghost use lib.ListN.{length};
+ghost use Rattle.board.specs.Board.{boardOf, total};
 ghost use Rattle.board.specs.Places.{isHeldBy, isQueuedAt};
 ghost use Rattle.paper.specs.Rules.{running};
 ghost use Rattle.inner.specs.Inner.{heldOf, presentMeant};
@@ -42,6 +44,7 @@ pub fn queued_at(p: Place, r: TaskNo) -> bool
 
 // The running task and the message that w means, where it holds it: else 3, 4 or 5.
 pub fn held(z: Size, b: &[u8], w: u16) -> Held
+    requires { ⌜ total z ≤ length (now b) ⌝ }
     ensures { λ res. ⌜ res ≡ heldOf z (boardOf z (now (b .entry))) (running z (boardOf z (now (b .entry)))) w ⌝ }
 {
     let who = running(z, b);
@@ -61,6 +64,7 @@ pub fn held(z: Size, b: &[u8], w: u16) -> Held
 
 // The task that w means, where it is present: else 6.
 pub fn present_task(z: Size, b: &[u8], w: u16) -> TaskMeant
+    requires { ⌜ total z ≤ length (now b) ⌝ }
     ensures { λ res. ⌜ res ≡ presentMeant z (boardOf z (now (b .entry))) w ⌝ }
 {
     let t = task_meant(z, b, w);

@@ -1,7 +1,9 @@
 // Claim, release and prepare: message blocks that are in no queue.
 ghost use mathlib.Core.Path.{_≡_};
+ghost use Prim.Native.Nat.{_≤_};
+ghost use lib.ListN.{length};
 ghost use Rattle.board.specs.Numbers.{messageMeant};
-ghost use Rattle.board.specs.Board.{boardOf};
+ghost use Rattle.board.specs.Board.{boardOf, total};
 ghost use Rattle.paper.specs.declared.call.Call.the-variants as calls;
 ghost use Rattle.paper.specs.Effects.{lowestFree};
 ghost use Rattle.inner.specs.Stores.{Makes, stepping};
@@ -23,6 +25,7 @@ use rules::who::running;
 
 // The lowest-numbered free message, if any.
 pub fn lowest_free(z: Size, b: &[u8]) -> MessageMeant
+    requires { ⌜ total z ≤ length (now b) ⌝ }
     ensures { λ res. ⌜ res ≡ messageMeant z (lowestFree (boardOf z (now (b .entry)))) ⌝ }
 {
     let most = z.messages;
@@ -38,6 +41,7 @@ pub fn lowest_free(z: Size, b: &[u8]) -> MessageMeant
 }
 
 pub fn claim(z: Size, b: &mut [u8]) -> Step
+    requires { ⌜ total z ≤ length (now b) ⌝ }
     ensures { λ res. ⌜ Makes res (now (b .exit)) (stepping z (now (b .entry)) calls.Claim) ⌝ }
 {
     let who = running(z, b);
@@ -53,6 +57,7 @@ pub fn claim(z: Size, b: &mut [u8]) -> Step
 }
 
 pub fn release(z: Size, b: &mut [u8], m: u16) -> Step
+    requires { ⌜ total z ≤ length (now b) ⌝ }
     ensures { λ res. ⌜ Makes res (now (b .exit)) (stepping z (now (b .entry)) (calls.Release m)) ⌝ }
 {
     let h = held(z, b, m);
@@ -65,6 +70,7 @@ pub fn release(z: Size, b: &mut [u8], m: u16) -> Step
 }
 
 pub fn prepare(z: Size, b: &mut [u8], m: u16, stat: u8, prio: u8, sptr: u16) -> Step
+    requires { ⌜ total z ≤ length (now b) ⌝ }
     ensures { λ res. ⌜ Makes res (now (b .exit)) (stepping z (now (b .entry)) (calls.Prepare m stat prio sptr)) ⌝ }
 {
     let h = held(z, b, m);

@@ -1,5 +1,8 @@
 // 'Place m at r', and the flags of a task whose queue has changed.
 ghost use mathlib.Core.Path.{_≡_};
+ghost use Prim.Native.Nat.{_≤_};
+ghost use lib.ListN.{length};
+ghost use Rattle.board.specs.Board.{total};
 ghost use Rattle.inner.specs.Stores.{wokenIn, emptiedIn, placeAtIn};
 use board::bytes::message_at;
 use board::bytes::put_message;
@@ -17,6 +20,7 @@ use queue::messages::into_queue;
 
 // A task that waits for a message is due one.
 fn wake(z: Size, b: &mut [u8], r: TaskNo)
+    requires { ⌜ total z ≤ length (now b) ⌝ }
     ensures { λ _. ⌜ now (b .exit) ≡ wokenIn z (now (b .entry)) (r .0) ⌝ }
 {
     let t = task_at(z, b, r);
@@ -29,6 +33,7 @@ fn wake(z: Size, b: &mut [u8], r: TaskNo)
 
 // A task that is due a message and has none queued waits again.
 pub fn sleep(z: Size, b: &mut [u8], r: TaskNo)
+    requires { ⌜ total z ≤ length (now b) ⌝ }
     ensures { λ _. ⌜ now (b .exit) ≡ emptiedIn z (now (b .entry)) (r .0) ⌝ }
 {
     let t = task_at(z, b, r);
@@ -44,6 +49,7 @@ pub fn sleep(z: Size, b: &mut [u8], r: TaskNo)
 
 // Message m is placed at task r: into its queue, bit 0 of PRIO set, r woken.
 pub fn place(z: Size, b: &mut [u8], m: MsgNo, r: TaskNo)
+    requires { ⌜ total z ≤ length (now b) ⌝ }
     ensures { λ _. ⌜ now (b .exit) ≡ placeAtIn z (now (b .entry)) (m .0) (r .0) ⌝ }
 {
     let held = message_at(z, b, m);

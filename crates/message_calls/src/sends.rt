@@ -1,5 +1,8 @@
 // Send, resend, forward and return, as far as placing: what follows is the wait, or dispatch alone.
 ghost use mathlib.Core.Path.{_≡_};
+ghost use Prim.Native.Nat.{_≤_};
+ghost use lib.ListN.{length};
+ghost use Rattle.board.specs.Board.{total};
 ghost use mathlib.Core.Bool.{cond};
 ghost use lib.Dec.{eqb};
 ghost use Rattle.paper.specs.declared.call.Call.the-variants as calls;
@@ -43,6 +46,7 @@ fn sender(sptr: u16, c: TaskNo) -> u16
 
 // What send writes into the message before it is placed.
 fn address(z: Size, b: &mut [u8], c: TaskNo, m: MsgNo, r: TaskNo)
+    requires { ⌜ total z ≤ length (now b) ⌝ }
     ensures { λ _. ⌜ now (b .exit) ≡ addressedIn z (now (b .entry)) (c .0) (m .0) (r .0) ⌝ }
 {
     let t = message_at(z, b, m);
@@ -53,6 +57,7 @@ fn address(z: Size, b: &mut [u8], c: TaskNo, m: MsgNo, r: TaskNo)
 }
 
 pub fn send(z: Size, b: &mut [u8], m: u16, r: u16) -> Placed
+    requires { ⌜ total z ≤ length (now b) ⌝ }
     ensures { λ res. ⌜ Makes res (now (b .exit)) (placing z (now (b .entry)) (calls.Send m r)) ⌝ }
 {
     let h = held(z, b, m);
@@ -70,6 +75,7 @@ pub fn send(z: Size, b: &mut [u8], m: u16, r: u16) -> Placed
 
 // The message that c holds is placed as it is at the task that w means: 6 and 7 are left to test.
 fn pass_on(z: Size, b: &mut [u8], c: TaskNo, m: MsgNo, w: u16) -> Placed
+    requires { ⌜ total z ≤ length (now b) ⌝ }
     ensures { λ res. ⌜ Makes res (now (b .exit)) (passing z (now (b .entry)) (c .0) (m .0) w) ⌝ }
 {
     let meant = present_task(z, b, w);
@@ -85,6 +91,7 @@ fn pass_on(z: Size, b: &mut [u8], c: TaskNo, m: MsgNo, w: u16) -> Placed
 }
 
 pub fn resend(z: Size, b: &mut [u8], m: u16) -> Placed
+    requires { ⌜ total z ≤ length (now b) ⌝ }
     ensures { λ res. ⌜ Makes res (now (b .exit)) (placing z (now (b .entry)) (calls.Resend m)) ⌝ }
 {
     let h = held(z, b, m);
@@ -96,6 +103,7 @@ pub fn resend(z: Size, b: &mut [u8], m: u16) -> Placed
 }
 
 pub fn forward(z: Size, b: &mut [u8], m: u16, r: u16) -> Placed
+    requires { ⌜ total z ≤ length (now b) ⌝ }
     ensures { λ res. ⌜ Makes res (now (b .exit)) (placing z (now (b .entry)) (calls.Forward m r)) ⌝ }
 {
     let h = held(z, b, m);
@@ -106,6 +114,7 @@ pub fn forward(z: Size, b: &mut [u8], m: u16, r: u16) -> Placed
 }
 
 pub fn give_back(z: Size, b: &mut [u8], m: u16) -> Placed
+    requires { ⌜ total z ≤ length (now b) ⌝ }
     ensures { λ res. ⌜ Makes res (now (b .exit)) (placing z (now (b .entry)) (calls.Return m)) ⌝ }
 {
     let h = held(z, b, m);

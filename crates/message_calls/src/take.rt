@@ -1,7 +1,9 @@
 // A queued message comes into a task's hands: receive, and what dispatch does.
 ghost use mathlib.Core.Path.{_≡_};
+ghost use Prim.Native.Nat.{_≤_};
+ghost use lib.ListN.{length};
 ghost use Rattle.board.specs.Numbers.{messageMeant};
-ghost use Rattle.board.specs.Board.{boardOf, task};
+ghost use Rattle.board.specs.Board.{boardOf, task, total};
 ghost use Rattle.paper.specs.declared.call.Call.the-variants as calls;
 ghost use Rattle.inner.specs.Stores.{takeIn, Makes, stepping};
 use crate::place::sleep;
@@ -24,6 +26,7 @@ use rules::who::running;
 
 // Task c takes the first message of its queue, if there is one.
 pub fn take_first(z: Size, b: &mut [u8], c: TaskNo) -> MessageMeant
+    requires { ⌜ total z ≤ length (now b) ⌝ }
     ensures { λ res. ⌜ (res ≡ messageMeant z (task (boardOf z (now (b .entry))) (c .0) .mptr)) × (now (b .exit) ≡ takeIn z (now (b .entry)) (c .0)) ⌝ }
 {
     let t = task_at(z, b, c);
@@ -38,6 +41,7 @@ pub fn take_first(z: Size, b: &mut [u8], c: TaskNo) -> MessageMeant
 }
 
 pub fn receive(z: Size, b: &mut [u8]) -> Step
+    requires { ⌜ total z ≤ length (now b) ⌝ }
     ensures { λ res. ⌜ Makes res (now (b .exit)) (stepping z (now (b .entry)) calls.Receive) ⌝ }
 {
     let who = running(z, b);
@@ -50,6 +54,7 @@ pub fn receive(z: Size, b: &mut [u8]) -> Step
 }
 
 pub fn cancel_message(z: Size, b: &mut [u8], m: u16, r: u16) -> Step
+    requires { ⌜ total z ≤ length (now b) ⌝ }
     ensures { λ res. ⌜ Makes res (now (b .exit)) (stepping z (now (b .entry)) (calls.CancelMessage m r)) ⌝ }
 {
     let who = running(z, b);

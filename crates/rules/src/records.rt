@@ -14,9 +14,9 @@ use board::priority::fifo;
 use board::records::Message;
 use board::records::Task;
 use board::status::Status;
-use board::whole::message_in;
-use board::whole::place_in;
-use board::whole::task_in;
+use board::words::message_meant;
+use board::words::place_meant;
+use board::words::task_meant;
 
 pub fn rule1(b: &[u8]) -> bool
     ensures { λ res. ⌜ res ≡ allZero (take 3 (drop 1 (now (b .entry)))) ⌝ }
@@ -94,7 +94,7 @@ pub fn rule2(z: Size, b: &[u8]) -> bool
     let mut k: u16 = 0;
     while k < most {
         k += 1;
-        if !good_task(task_in(z, b, k)) {
+        if !good_task(task_meant(z, b, k)) {
             return false;
         }
     }
@@ -132,7 +132,7 @@ fn present_at(z: Size, b: &[u8], k: TaskNo) -> bool
     requires { ⌜ total z ≤ length (now b) ⌝ }
     ensures { λ res. ⌜ res ≡ present (boardOf z (now (b .entry))) (k .0) ⌝ }
 {
-    let t = task_in(z, b, k.number());
+    let t = task_meant(z, b, k.number());
     t.present()
 }
 
@@ -187,8 +187,8 @@ pub fn rule4(z: Size, b: &[u8]) -> bool
     let mut m: u16 = 0;
     while m < most {
         m += 1;
-        let r = message_in(z, b, m);
-        let p = place_in(z, b, m);
+        let r = message_meant(z, b, m);
+        let p = place_meant(z, b, m);
         if !good_message(z, b, r, p) {
             return false;
         }
@@ -229,7 +229,7 @@ pub fn rule6(z: Size, b: &[u8]) -> bool
     let mut k: u16 = 0;
     while k < most {
         k += 1;
-        let t = task_in(z, b, k);
+        let t = task_meant(z, b, k);
         if !good_flags(t.stat, t.mptr == 0) {
             return false;
         }

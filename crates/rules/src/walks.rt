@@ -11,11 +11,11 @@ use board::bytes::first_task;
 use board::numbers::Size;
 use board::places::Place;
 use board::priority::number;
-use board::whole::link_in;
-use board::whole::place_in;
-use board::whole::prio_in;
-use board::whole::queued_in;
-use board::whole::task_in;
+use board::words::link_meant;
+use board::words::place_meant;
+use board::words::prio_meant;
+use board::words::queued_meant;
+use board::words::task_meant;
 
 // One link followed: the next link and the priority number of the record, or a record that does not belong there.
 pub enum Turn {
@@ -33,7 +33,7 @@ fn task_turn(z: Size, b: &[u8], k: u16, low: u8) -> Turn
     requires { ⌜ total z ≤ length (now b) ⌝ }
     ensures { λ res. ⌜ res ≡ turned (nextTask (boardOf z (now (b .entry)))) (taskNumber (boardOf z (now (b .entry)))) (present (boardOf z (now (b .entry)))) k low ⌝ }
 {
-    let t = task_in(z, b, k);
+    let t = task_meant(z, b, k);
     if !t.present() {
         return Turn::Stray;
     }
@@ -82,7 +82,7 @@ fn count_present(z: Size, b: &[u8]) -> u16
     let mut n: u16 = 0;
     while k < most {
         k += 1;
-        let t = task_in(z, b, k);
+        let t = task_meant(z, b, k);
         if t.present() {
             n += 1;
         }
@@ -105,15 +105,15 @@ fn message_turn(z: Size, b: &[u8], k: u16, m: u16, low: u8) -> Turn
     requires { ⌜ total z ≤ length (now b) ⌝ }
     ensures { λ res. ⌜ res ≡ turned (nextMessage (boardOf z (now (b .entry)))) (messageNumber (boardOf z (now (b .entry)))) (queuedAt (boardOf z (now (b .entry))) k) m low ⌝ }
 {
-    if !queued_in(z, b, k, m) {
+    if !queued_meant(z, b, k, m) {
         return Turn::Stray;
     }
-    let n = number(prio_in(z, b, m));
+    let n = number(prio_meant(z, b, m));
     if n < low {
         return Turn::Stray;
     }
     Turn::Next {
-        link: link_in(z, b, m),
+        link: link_meant(z, b, m),
         low: n,
     }
 }
@@ -123,7 +123,7 @@ fn walk_queue(z: Size, b: &[u8], k: u16) -> Walked
     ensures { λ res. ⌜ res ≡ visited (nextMessage (boardOf z (now (b .entry)))) (messageNumber (boardOf z (now (b .entry)))) (queuedAt (boardOf z (now (b .entry))) k) (z .messages) (task (boardOf z (now (b .entry))) k .mptr) 0 0 ⌝ }
 {
     let most = z.messages as u32;
-    let t = task_in(z, b, k);
+    let t = task_meant(z, b, k);
     let mut link = t.mptr;
     let mut low: u8 = 0;
     let mut seen: u32 = 0;
@@ -154,7 +154,7 @@ fn count_queued(z: Size, b: &[u8]) -> u16
     let mut n: u16 = 0;
     while m < most {
         m += 1;
-        let p = place_in(z, b, m);
+        let p = place_meant(z, b, m);
         if let Place::QueuedAt(_) = p {
             n += 1;
         }

@@ -9,10 +9,11 @@ use native.Mathlib.Decide.{ℕ-discrete}
 use lib.ListN.{length, getD, set, replicate, length-replicate, getD-replicate}
 use lib.Seq.{ext-getD, getD-set-same, getD-set-other}
 use lib.Dec.{eqb}
+use borrow.Author.Tests.{eqb-true}
 use Rattle.board.specs.declared.numbers.Size.{Size}
 use Rattle.board.specs.declared.numbers.TaskMeant.the-variants.{Task, NoTask}
 use Rattle.board.specs.Numbers.{small, outside, taskNo, taskMeant}
-use Rattle.board.specs.Board.{Board, boardOf}
+use Rattle.board.specs.Board.{Board, total, boardOf}
 use Rattle.board.proofs.Pieces.{within-outside}
 use Rattle.board.proofs.Codec.{length-tasks}
 use Rattle.paper.specs.declared.answer.Answer.{Answer}
@@ -33,6 +34,10 @@ pub stood : {s t r : Bool} → s ≡ true → r ≡ (s && t) → t ≡ r
 stood {t = t} h e = sym (e ∙ ap (λ (s : Bool). s && t) h)
 
 -- ---- the length
+-- bytes of the right length hold a whole board
+pub whole : (l : List ℕ) → eqb (length l) (total small) ≡ true → total small ≤ length l
+whole l h = let e : length l ≡ 1476 = eqb-true (length l) 1476 h in omega arith
+
 pub fresh-refused : (l : List ℕ) → eqb (length l) 1476 ≡ false → Ends (Refused WrongLength) l (fresh small l)
 fresh-refused l h =
     ends _ l (fresh small l) (ap (λ (t : Bool). judge l (lowest (test WrongLength (not t) ∷ [])) (accepted 0 0 0 (blank small))) h)

@@ -1,7 +1,9 @@
 // CODE. The bodies of the calls on tasks: install, cancel task, find, post and wait for interrupt. Each tests the refusals of its row in
 // the paper's order, and only then writes.
 ghost use mathlib.Core.Path.{_≡_};
-ghost use Rattle.board.specs.Board.{boardOf};
+ghost use Prim.Native.Nat.{_≤_};
+ghost use lib.ListN.{length};
+ghost use Rattle.board.specs.Board.{boardOf, total};
 ghost use Rattle.paper.specs.declared.call.Call.the-variants as calls;
 ghost use Rattle.paper.specs.Effects.{find};
 ghost use Rattle.paper.specs.Refusals.{holdsOne, no9};
@@ -50,6 +52,7 @@ fn bad_status(s: Status) -> bool
 }
 
 pub fn install(z: Size, b: &mut [u8], k: u16, stat: u8, prio: u8, sptr: u16, name: u16) -> Step
+    requires { ⌜ total z ≤ length (now b) ⌝ }
     ensures { λ res. ⌜ Makes res (now (b .exit)) (stepping z (now (b .entry)) (calls.Install k stat prio sptr name)) ⌝ }
 {
     if !task_prio(prio) {
@@ -80,6 +83,7 @@ pub fn install(z: Size, b: &mut [u8], k: u16, stat: u8, prio: u8, sptr: u16, nam
 }
 
 pub fn post_interrupt(z: Size, b: &mut [u8], k: u16) -> Step
+    requires { ⌜ total z ≤ length (now b) ⌝ }
     ensures { λ res. ⌜ Makes res (now (b .exit)) (stepping z (now (b .entry)) (calls.PostInterrupt k)) ⌝ }
 {
     let meant = present_task(z, b, k);
@@ -98,6 +102,7 @@ pub fn post_interrupt(z: Size, b: &mut [u8], k: u16) -> Step
 
 // The first task in queue order with that name, 0 if none.
 fn named(z: Size, b: &[u8], name: u16) -> u16
+    requires { ⌜ total z ≤ length (now b) ⌝ }
     ensures { λ res. ⌜ res ≡ find z (boardOf z (now (b .entry))) name ⌝ }
 {
     let mut k = first_task(b) as u16;
@@ -117,6 +122,7 @@ fn named(z: Size, b: &[u8], name: u16) -> u16
 }
 
 pub fn find_task(z: Size, b: &[u8], name: u16) -> Step
+    requires { ⌜ total z ≤ length (now b) ⌝ }
     ensures { λ res. ⌜ Makes res (now (b .entry)) (stepping z (now (b .entry)) (calls.Find name)) ⌝ }
 {
     Step::Done(named(z, b, name))
@@ -124,6 +130,7 @@ pub fn find_task(z: Size, b: &[u8], name: u16) -> Step
 
 // True if task k holds a message.
 fn holds_one(z: Size, b: &[u8], k: TaskNo) -> bool
+    requires { ⌜ total z ≤ length (now b) ⌝ }
     ensures { λ res. ⌜ res ≡ holdsOne (boardOf z (now (b .entry))) (k .0) ⌝ }
 {
     let most = z.messages;
@@ -138,6 +145,7 @@ fn holds_one(z: Size, b: &[u8], k: TaskNo) -> bool
 }
 
 pub fn cancel_task(z: Size, b: &mut [u8], k: u16) -> Step
+    requires { ⌜ total z ≤ length (now b) ⌝ }
     ensures { λ res. ⌜ Makes res (now (b .exit)) (stepping z (now (b .entry)) (calls.CancelTask k)) ⌝ }
 {
     let who = running(z, b);
@@ -165,6 +173,7 @@ pub fn cancel_task(z: Size, b: &mut [u8], k: u16) -> Step
 }
 
 pub fn wait_for_interrupt(z: Size, b: &mut [u8]) -> Step
+    requires { ⌜ total z ≤ length (now b) ⌝ }
     ensures { λ res. ⌜ Makes res (now (b .exit)) (stepping z (now (b .entry)) calls.WaitForInterrupt) ⌝ }
 {
     let who = running(z, b);

@@ -2,7 +2,7 @@ use mathlib.Core.Path.{_≡_, refl, sym, ap, _∙_}
 use denote.Ref.{now}
 use borrow.Author.Tests.{not-true, not-false}
 use Rattle.station.specs.Meant.{numberMeant}
-use Rattle.station.proofs.Answers.{stood, check-length, check-broken, check-passed}
+use Rattle.station.proofs.Answers.{stood, whole, check-length, check-broken, check-passed}
 use borrow.Author.Needs.{needs}
 use Rattle.station.proofs.check.Statement.{statement}
 use Rattle.station.proofs.check.Tie as tie
@@ -31,7 +31,7 @@ returns-2 c = check-broken (now (c .before .before .before .before .before .args
 
 -- src/lib.rt:53:9
 running-requires : tie.Need-running-requires
-running-requires c κs = search needs
+running-requires c κs = whole (now (c .before .before .before .before .before .args .b)) (sym (c .before .before .before .sized .ensures) ∙ not-false _ (c .before .before .if1 .left))
 
 -- src/lib.rt:56:18
 number-of-requires : tie.Need-number-of-requires

@@ -2,7 +2,7 @@ use mathlib.Core.Path.{_≡_, refl, sym, ap, _∙_}
 use denote.Ref.{now}
 use borrow.Author.Tests.{not-true, not-false}
 use Rattle.station.proofs.Fitted.{fitted}
-use Rattle.station.proofs.Answers.{stood}
+use Rattle.station.proofs.Answers.{stood, whole}
 use Rattle.station.proofs.Stepping.{step-length, step-broken, step-made}
 use borrow.Author.Needs.{needs}
 use Rattle.station.proofs.step.Statement.{statement}
@@ -39,7 +39,7 @@ returns-2 c = step-broken (now (c .before .before .before .before .before .befor
 
 -- src/lib.rt:72:5
 make-call-requires : tie.Need-make-call-requires
-make-call-requires c κs = search needs
+make-call-requires c κs = whole (now (c .before .before .before .before .before .before .before .before .args .b)) (sym (c .before .before .before .before .before .sized .ensures) ∙ not-false _ (c .before .before .before .before .if1 .left))
 
 -- src/lib.rt:62:1
 same-length-3 : tie.Need-same-length-3

@@ -1,3 +1,4 @@
+use native.Mathlib.Omega.{arith}
 use denote.Ref.{now}
 use borrow.Author.Needs.{needs}
 use Rattle.task_calls.proofs.Cancelling.{cancel-nobody, cancel-no-task, cancel-queued, cancel-holds, cancel-waits, cancels}
@@ -125,7 +126,7 @@ none-requires c κs = search needs
 
 -- src/lib.rt:163:5
 put-task-requires : tie.Need-put-task-requires
-put-task-requires c κs = search needs
+put-task-requires c κs = omega (arith, c .before .before .before .before .before .before .before .before .before .before .before .before .before .before .before .before .before .before .before .before .before .before .before .before .before .before .pre, c .before .before .before .b .given)
 
 -- src/lib.rt:140:1
 same-length-6 : tie.Need-same-length-6

@@ -6,7 +6,7 @@ use Rattle.board.proofs.bytes.message_at.Statement.{statement}
 use Rattle.board.proofs.bytes.message_at.Tie as tie
 use Rattle.board.proofs.bytes.message_at.Reads as reads
 use Rattle.board.proofs.bytes.message_at.Lts as lts
-use Rattle.board.proofs.bytes.byte.Reads as byte-reads
+use Rattle.board.proofs.bytes.byte_in.Reads as byte-in-reads
 use Rattle.board.proofs.bytes.word.Reads as word-reads
 use Rattle.board.proofs.numbers.MsgNo.number.Reads as number-reads
 use Rattle.board.proofs.records.Message.none.Reads as none-reads
@@ -63,16 +63,16 @@ sub-o : tie.Need-sub-o
 sub-o c = search needs
 
 -- src/bytes.rt:117:15
-byte-requires : tie.Need-byte-requires
-byte-requires c κs = search needs
+byte-in-requires : tie.Need-byte-in-requires
+byte-in-requires c κs = search needs
 
 -- src/bytes.rt:118:23
-add-byte : tie.Need-add-byte
-add-byte c = search needs
+add-byte-in : tie.Need-add-byte-in
+add-byte-in c = search needs
 
 -- src/bytes.rt:118:15
-byte-requires-2 : tie.Need-byte-requires-2
-byte-requires-2 c κs = search needs
+byte-in-requires-2 : tie.Need-byte-in-requires-2
+byte-in-requires-2 c κs = search needs
 
 -- src/bytes.rt:119:23
 add-word : tie.Need-add-word
@@ -106,7 +106,7 @@ returns-3 c =
     let n = t .before .before .before in
     let a = n .before .before .args in
     message-reads (a .z) (now (a .b)) (a .m .0) _ _ _ _ _ _ _ (n .number .ensures) (t .before .before .if1 .left) (t .if2 .left)
-    refl (s .byte .ensures) (c .before .before .before .byte2 .ensures) (c .before .before .word .ensures)
+    refl (s .byte-in .ensures) (c .before .before .before .byte-in2 .ensures) (c .before .before .word .ensures)
     (c .before .word2 .ensures) (c .word3 .ensures)
 
 pub message-at-spec : {M : Type 1} → statement M
@@ -125,9 +125,9 @@ message-at-spec =
     mul-o-2
     add-o
     sub-o
-    byte-requires
-    add-byte
-    byte-requires-2
+    byte-in-requires
+    add-byte-in
+    byte-in-requires-2
     add-word
     word-requires
     add-word-2

@@ -6,7 +6,7 @@ use Rattle.board.proofs.bytes.place_at.Statement.{statement}
 use Rattle.board.proofs.bytes.place_at.Tie as tie
 use Rattle.board.proofs.bytes.place_at.Reads as reads
 use Rattle.board.proofs.bytes.place_at.Lts as lts
-use Rattle.board.proofs.bytes.byte.Reads as byte-reads
+use Rattle.board.proofs.bytes.byte_in.Reads as byte-in-reads
 use Rattle.board.proofs.numbers.MsgNo.number.Reads as number-reads
 use Rattle.board.proofs.places.Place.of.Reads as of-reads
 
@@ -34,36 +34,36 @@ returns-2 c =
     place-beyond (a .z) (now (a .b)) (a .m .0) _ (n .number .ensures) (c .if2 .taken)
 
 -- src/bytes.rt:155:23
-cast-byte : tie.Need-cast-byte
-cast-byte c = search needs
+cast-byte-in : tie.Need-cast-byte-in
+cast-byte-in c = search needs
 
 -- src/bytes.rt:155:17
-mul-byte : tie.Need-mul-byte
-mul-byte c = search needs
+mul-byte-in : tie.Need-mul-byte-in
+mul-byte-in c = search needs
 
 -- src/bytes.rt:155:46
-cast-byte-2 : tie.Need-cast-byte-2
-cast-byte-2 c = search needs
+cast-byte-in-2 : tie.Need-cast-byte-in-2
+cast-byte-in-2 c = search needs
 
 -- src/bytes.rt:155:41
-mul-byte-2 : tie.Need-mul-byte-2
-mul-byte-2 c = search needs
+mul-byte-in-2 : tie.Need-mul-byte-in-2
+mul-byte-in-2 c = search needs
 
 -- src/bytes.rt:155:17
-add-byte : tie.Need-add-byte
-add-byte c = search needs
+add-byte-in : tie.Need-add-byte-in
+add-byte-in c = search needs
 
 -- src/bytes.rt:155:17
-add-byte-2 : tie.Need-add-byte-2
-add-byte-2 c = search needs
+add-byte-in-2 : tie.Need-add-byte-in-2
+add-byte-in-2 c = search needs
 
 -- src/bytes.rt:155:17
-add-byte-3 : tie.Need-add-byte-3
-add-byte-3 c = search needs
+add-byte-in-3 : tie.Need-add-byte-in-3
+add-byte-in-3 c = search needs
 
 -- src/bytes.rt:155:9
-byte-requires : tie.Need-byte-requires
-byte-requires c κs = search needs
+byte-in-requires : tie.Need-byte-in-requires
+byte-in-requires c κs = search needs
 
 -- src/bytes.rt:153:5
 of-requires : tie.Need-of-requires
@@ -76,7 +76,7 @@ returns-3 c =
     let n = t .before .before .before in
     let a = n .before .before .args in
     place-reads (a .z) (now (a .b)) (a .m .0) _ _ _ _ (n .number .ensures) (t .before .before .if1 .left) (t .if2 .left) refl
-    (c .before .byte .ensures) (c .of .ensures)
+    (c .before .byte-in .ensures) (c .of .ensures)
 
 pub place-at-spec : {M : Type 1} → statement M
 place-at-spec =
@@ -87,13 +87,13 @@ place-at-spec =
     returns
     cast-if2
     returns-2
-    cast-byte
-    mul-byte
-    cast-byte-2
-    mul-byte-2
-    add-byte
-    add-byte-2
-    add-byte-3
-    byte-requires
+    cast-byte-in
+    mul-byte-in
+    cast-byte-in-2
+    mul-byte-in-2
+    add-byte-in
+    add-byte-in-2
+    add-byte-in-3
+    byte-in-requires
     of-requires
     returns-3)

@@ -6,7 +6,7 @@ use Rattle.board.proofs.bytes.task_at.Statement.{statement}
 use Rattle.board.proofs.bytes.task_at.Tie as tie
 use Rattle.board.proofs.bytes.task_at.Reads as reads
 use Rattle.board.proofs.bytes.task_at.Lts as lts
-use Rattle.board.proofs.bytes.byte.Reads as byte-reads
+use Rattle.board.proofs.bytes.byte_in.Reads as byte-in-reads
 use Rattle.board.proofs.bytes.word.Reads as word-reads
 use Rattle.board.proofs.numbers.TaskNo.number.Reads as number-reads
 use Rattle.board.proofs.records.Task.none.Reads as none-reads
@@ -52,20 +52,20 @@ sub-o : tie.Need-sub-o
 sub-o c = search needs
 
 -- src/bytes.rt:76:30
-byte-requires : tie.Need-byte-requires
-byte-requires c κs = search needs
+byte-in-requires : tie.Need-byte-in-requires
+byte-in-requires c κs = search needs
 
 -- src/bytes.rt:76:15
 stored-requires : tie.Need-stored-requires
 stored-requires c κs = search needs
 
 -- src/bytes.rt:77:23
-add-byte : tie.Need-add-byte
-add-byte c = search needs
+add-byte-in : tie.Need-add-byte-in
+add-byte-in c = search needs
 
 -- src/bytes.rt:77:15
-byte-requires-2 : tie.Need-byte-requires-2
-byte-requires-2 c κs = search needs
+byte-in-requires-2 : tie.Need-byte-in-requires-2
+byte-in-requires-2 c κs = search needs
 
 -- src/bytes.rt:78:23
 add-word : tie.Need-add-word
@@ -107,8 +107,8 @@ returns-3 c =
     let n = t .before .before .before in
     let a = n .before .before .args in
     task-reads (a .z) (now (a .b)) (a .k .0) _ _ _ _ _ _ _ _ _ (n .number .ensures) (t .before .before .if1 .left) (t .if2 .left)
-    refl (s .byte .ensures) (c .before .before .before .before .before .stored .ensures)
-    (c .before .before .before .before .byte2 .ensures) (c .before .before .before .word .ensures)
+    refl (s .byte-in .ensures) (c .before .before .before .before .before .stored .ensures)
+    (c .before .before .before .before .byte-in2 .ensures) (c .before .before .before .word .ensures)
     (c .before .before .word2 .ensures) (c .before .word3 .ensures) (c .word4 .ensures)
 
 pub task-at-spec : {M : Type 1} → statement M
@@ -124,10 +124,10 @@ task-at-spec =
     returns-2
     mul-o
     sub-o
-    byte-requires
+    byte-in-requires
     stored-requires
-    add-byte
-    byte-requires-2
+    add-byte-in
+    byte-in-requires-2
     add-word
     word-requires
     add-word-2

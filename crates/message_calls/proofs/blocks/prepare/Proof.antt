@@ -66,7 +66,7 @@ with-sptr-requires c κs = search needs
 
 -- src/blocks.rt:78:5
 put-message-requires : tie.Need-put-message-requires
-put-message-requires c κs = search needs
+put-message-requires c κs = c .before .before .before .before .before .before .before .before .before .before .before .before .before .before .pre
 
 -- src/blocks.rt:67:1
 same-length-3 : tie.Need-same-length-3

@@ -1,3 +1,4 @@
+use native.Mathlib.Omega.{arith}
 use borrow.Author.Needs.{needs}
 use mathlib.Core.Path.{refl}
 use denote.Ref.{now}
@@ -113,15 +114,15 @@ returns-5 c = cancel-not-sender (c .before .before .before .before .before .befo
 
 -- src/take.rt:74:5
 out-of-queue-requires : tie.Need-out-of-queue-requires
-out-of-queue-requires c κs = search needs
+out-of-queue-requires c κs = c .before .before .before .before .before .before .before .before .before .before .before .before .before .before .before .before .before .before .before .before .before .before .before .before .before .pre
 
 -- src/take.rt:75:5
 hold-requires : tie.Need-hold-requires
-hold-requires c κs = search needs
+hold-requires c κs = omega (arith, c .before .before .before .before .before .before .before .before .before .before .before .before .before .before .before .before .before .before .before .before .before .before .before .before .before .before .before .before .before .pre, c .before .before .b .given)
 
 -- src/take.rt:76:5
 sleep-requires : tie.Need-sleep-requires
-sleep-requires c κs = search needs
+sleep-requires c κs = omega (arith, c .before .before .before .before .before .before .before .before .before .before .before .before .before .before .before .before .before .before .before .before .before .before .before .before .before .before .before .before .before .before .before .before .before .pre, c .before .before .b2 .given, c .before .before .before .before .before .before .b .given)
 
 -- src/take.rt:52:1
 same-length-6 : tie.Need-same-length-6

@@ -9,15 +9,15 @@ use Rattle.rules.proofs.records.present_at.Reads as reads
 use Rattle.rules.proofs.records.present_at.Lts as lts
 use Rattle.board.proofs.numbers.TaskNo.number.Reads as number-reads
 use Rattle.board.proofs.records.Task.present.Reads as present-reads
-use Rattle.board.proofs.whole.task_in.Reads as task-in-reads
+use Rattle.board.proofs.words.task_meant.Reads as task-meant-reads
 
 -- src/records.rt:132:30
 number-requires : tie.Need-number-requires
 number-requires c κs = search needs
 
 -- src/records.rt:132:9
-task-in-requires : tie.Need-task-in-requires
-task-in-requires c κs = search needs
+task-meant-requires : tie.Need-task-meant-requires
+task-meant-requires c κs = search needs
 
 -- src/records.rt:133:5
 present-requires : tie.Need-present-requires
@@ -28,7 +28,7 @@ returns : tie.Need-returns
 returns c =
     let a = c .before .before .before .before .args in
     c .present .ensures ∙ ap isThere
-    (c .before .task-in .ensures ∙ ap (task (boardOf (a .z) (now (a .b)))) (c .before .before .number .ensures))
+    (c .before .task-meant .ensures ∙ ap (task (boardOf (a .z) (now (a .b)))) (c .before .before .number .ensures))
 
 pub present-at-spec : {M : Type 1} → statement M
-present-at-spec = tie.close (tie.spec number-requires task-in-requires present-requires returns)
+present-at-spec = tie.close (tie.spec number-requires task-meant-requires present-requires returns)

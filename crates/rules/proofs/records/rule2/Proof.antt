@@ -12,7 +12,7 @@ use Rattle.rules.proofs.records.rule2.Statement.{statement}
 use Rattle.rules.proofs.records.rule2.Tie as tie
 use Rattle.rules.proofs.records.rule2.Reads as reads
 use Rattle.rules.proofs.records.rule2.Lts as lts
-use Rattle.board.proofs.whole.task_in.Reads as task-in-reads
+use Rattle.board.proofs.words.task_meant.Reads as task-meant-reads
 use Rattle.rules.proofs.records.good_task.Reads as good-task-reads
 
 abbrev Inv-loop : tie.InvT-loop
@@ -30,8 +30,8 @@ add-k : tie.Need-add-k Inv-loop μ-loop
 add-k c = omega arith
 
 -- src/records.rt:95:23
-task-in-requires : tie.Need-task-in-requires Inv-loop μ-loop
-task-in-requires c κs = search needs
+task-meant-requires : tie.Need-task-meant-requires Inv-loop μ-loop
+task-meant-requires c κs = search needs
 
 -- src/records.rt:95:13
 good-task-requires : tie.Need-good-task-requires Inv-loop μ-loop
@@ -44,7 +44,7 @@ returns c =
     let a = c .before .before .before .before .before .before .args in
     let f = rule2At (boardOf (a .z) (now (a .b))) in
     each-fails f (a .z .tasks) (l .k) _ (c .before .before .before .loop-test .taken)
-    (c .before .good-task .ensures ∙ ap goodTask (c .before .before .task-in .ensures))
+    (c .before .good-task .ensures ∙ ap goodTask (c .before .before .task-meant .ensures))
     (c .if1 .taken)
 
 -- src/records.rt:93:5
@@ -59,7 +59,7 @@ loop-again c =
     let f = rule2At (boardOf (a .z) (now (a .b))) in (
       omega arith,
       refl,
-      each-next f (l .k) _ (c .before .good-task .ensures ∙ ap goodTask (c .before .before .task-in .ensures))
+      each-next f (l .k) _ (c .before .good-task .ensures ∙ ap goodTask (c .before .before .task-meant .ensures))
           (c .if1 .left) (l .inv .2),
     )
 
@@ -79,7 +79,7 @@ rule2-spec =
     μ-loop
     loop-holds
     add-k
-    task-in-requires
+    task-meant-requires
     good-task-requires
     returns
     loop-less

@@ -12,8 +12,8 @@ use Rattle.rules.proofs.records.rule4.Statement.{statement}
 use Rattle.rules.proofs.records.rule4.Tie as tie
 use Rattle.rules.proofs.records.rule4.Reads as reads
 use Rattle.rules.proofs.records.rule4.Lts as lts
-use Rattle.board.proofs.whole.message_in.Reads as message-in-reads
-use Rattle.board.proofs.whole.place_in.Reads as place-in-reads
+use Rattle.board.proofs.words.message_meant.Reads as message-meant-reads
+use Rattle.board.proofs.words.place_meant.Reads as place-meant-reads
 use Rattle.rules.proofs.records.good_message.Reads as good-message-reads
 
 abbrev Inv-loop : tie.InvT-loop
@@ -31,12 +31,12 @@ add-m : tie.Need-add-m Inv-loop μ-loop
 add-m c = omega arith
 
 -- src/records.rt:183:13
-message-in-requires : tie.Need-message-in-requires Inv-loop μ-loop
-message-in-requires c κs = search needs
+message-meant-requires : tie.Need-message-meant-requires Inv-loop μ-loop
+message-meant-requires c κs = search needs
 
 -- src/records.rt:184:13
-place-in-requires : tie.Need-place-in-requires Inv-loop μ-loop
-place-in-requires c κs = search needs
+place-meant-requires : tie.Need-place-meant-requires Inv-loop μ-loop
+place-meant-requires c κs = search needs
 
 -- src/records.rt:185:13
 good-message-requires : tie.Need-good-message-requires Inv-loop μ-loop
@@ -50,8 +50,8 @@ returns c =
     let f = rule4At (a .z) (boardOf (a .z) (now (a .b))) in
     each-fails f (a .z .messages) (l .m) _ (c .before .before .before .before .loop-test .taken)
     (c .before .good-message .ensures
-    ∙ ap₂ (goodMessage (a .z) (present (boardOf (a .z) (now (a .b))))) (c .before .before .before .message-in .ensures)
-    (c .before .before .place-in .ensures))
+    ∙ ap₂ (goodMessage (a .z) (present (boardOf (a .z) (now (a .b))))) (c .before .before .before .message-meant .ensures)
+    (c .before .before .place-meant .ensures))
     (c .if1 .taken)
 
 -- src/records.rt:181:5
@@ -67,8 +67,8 @@ loop-again c =
       omega arith,
       refl,
       each-next f (l .m) _ (c .before .good-message .ensures
-          ∙ ap₂ (goodMessage (a .z) (present (boardOf (a .z) (now (a .b))))) (c .before .before .before .message-in .ensures)
-          (c .before .before .place-in .ensures))
+          ∙ ap₂ (goodMessage (a .z) (present (boardOf (a .z) (now (a .b))))) (c .before .before .before .message-meant .ensures)
+          (c .before .before .place-meant .ensures))
           (c .if1 .left) (l .inv .2),
     )
 
@@ -88,8 +88,8 @@ rule4-spec =
     μ-loop
     loop-holds
     add-m
-    message-in-requires
-    place-in-requires
+    message-meant-requires
+    place-meant-requires
     good-message-requires
     returns
     loop-less

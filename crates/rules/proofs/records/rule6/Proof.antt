@@ -14,7 +14,7 @@ use Rattle.rules.proofs.records.rule6.Statement.{statement}
 use Rattle.rules.proofs.records.rule6.Tie as tie
 use Rattle.rules.proofs.records.rule6.Reads as reads
 use Rattle.rules.proofs.records.rule6.Lts as lts
-use Rattle.board.proofs.whole.task_in.Reads as task-in-reads
+use Rattle.board.proofs.words.task_meant.Reads as task-meant-reads
 use Rattle.rules.proofs.records.good_flags.Reads as good-flags-reads
 
 abbrev Inv-loop : tie.InvT-loop
@@ -32,8 +32,8 @@ add-k : tie.Need-add-k Inv-loop μ-loop
 add-k c = omega arith
 
 -- src/records.rt:224:13
-task-in-requires : tie.Need-task-in-requires Inv-loop μ-loop
-task-in-requires c κs = search needs
+task-meant-requires : tie.Need-task-meant-requires Inv-loop μ-loop
+task-meant-requires c κs = search needs
 
 -- src/records.rt:225:13
 good-flags-requires : tie.Need-good-flags-requires Inv-loop μ-loop
@@ -47,7 +47,7 @@ returns c =
     let f = rule6At (boardOf (a .z) (now (a .b))) in
     each-fails f (a .z .tasks) (l .k) _ (c .before .before .before .before .loop-test .taken)
     (c .before .good-flags .ensures
-    ∙ ap (λ (t : Task). goodFlags (t .stat) (eqb (t .mptr) 0)) (c .before .before .before .task-in .ensures))
+    ∙ ap (λ (t : Task). goodFlags (t .stat) (eqb (t .mptr) 0)) (c .before .before .before .task-meant .ensures))
     (c .if1 .taken)
 
 -- src/records.rt:222:5
@@ -63,7 +63,7 @@ loop-again c =
       omega arith,
       refl,
       each-next f (l .k) _ (c .before .good-flags .ensures
-          ∙ ap (λ (t : Task). goodFlags (t .stat) (eqb (t .mptr) 0)) (c .before .before .before .task-in .ensures))
+          ∙ ap (λ (t : Task). goodFlags (t .stat) (eqb (t .mptr) 0)) (c .before .before .before .task-meant .ensures))
           (c .if1 .left) (l .inv .2),
     )
 
@@ -83,7 +83,7 @@ rule6-spec =
     μ-loop
     loop-holds
     add-k
-    task-in-requires
+    task-meant-requires
     good-flags-requires
     returns
     loop-less

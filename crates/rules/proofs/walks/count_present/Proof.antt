@@ -12,7 +12,7 @@ use Rattle.rules.proofs.walks.count_present.Tie as tie
 use Rattle.rules.proofs.walks.count_present.Reads as reads
 use Rattle.rules.proofs.walks.count_present.Lts as lts
 use Rattle.board.proofs.records.Task.present.Reads as present-reads
-use Rattle.board.proofs.whole.task_in.Reads as task-in-reads
+use Rattle.board.proofs.words.task_meant.Reads as task-meant-reads
 
 abbrev Inv-loop : tie.InvT-loop
 Inv-loop z b most k₀ n₀ k n = (k ≤ most) × (most ≡ z .tasks) × (n ≡ counted (present (boardOf z b)) k)
@@ -31,8 +31,8 @@ add-k : tie.Need-add-k Inv-loop μ-loop
 add-k c = omega arith
 
 -- src/walks.rt:78:13
-task-in-requires : tie.Need-task-in-requires Inv-loop μ-loop
-task-in-requires c κs = search needs
+task-meant-requires : tie.Need-task-meant-requires Inv-loop μ-loop
+task-meant-requires c κs = search needs
 
 -- src/walks.rt:79:12
 present-requires : tie.Need-present-requires Inv-loop μ-loop
@@ -52,7 +52,7 @@ loop-again c = (
   omega arith,
   refl,
   count-yes _ _ _ (c .before .before .before .before .loop .inv .2)
-      (sym (c .before .present .ensures ∙ ap isThere (c .before .before .task-in .ensures)) ∙ c .if1 .taken),
+      (sym (c .before .present .ensures ∙ ap isThere (c .before .before .task-meant .ensures)) ∙ c .if1 .taken),
 )
 
 -- src/walks.rt:76:5
@@ -65,7 +65,7 @@ loop-again-2 c = (
   omega arith,
   refl,
   count-no _ _ _ (c .before .before .before .before .loop .inv .2)
-      (sym (c .before .present .ensures ∙ ap isThere (c .before .before .task-in .ensures)) ∙ c .if1 .left),
+      (sym (c .before .present .ensures ∙ ap isThere (c .before .before .task-meant .ensures)) ∙ c .if1 .left),
 )
 
 -- src/walks.rt:70:1
@@ -84,7 +84,7 @@ count-present-spec =
     μ-loop
     loop-holds
     add-k
-    task-in-requires
+    task-meant-requires
     present-requires
     add-n
     loop-less

@@ -11,7 +11,7 @@ use Rattle.rules.proofs.walks.count_queued.Statement.{statement}
 use Rattle.rules.proofs.walks.count_queued.Tie as tie
 use Rattle.rules.proofs.walks.count_queued.Reads as reads
 use Rattle.rules.proofs.walks.count_queued.Lts as lts
-use Rattle.board.proofs.whole.place_in.Reads as place-in-reads
+use Rattle.board.proofs.words.place_meant.Reads as place-meant-reads
 
 abbrev Inv-loop : tie.InvT-loop
 Inv-loop z b most m₀ n₀ m n = (m ≤ most) × (most ≡ z .messages) × (n ≡ counted (queued (boardOf z b)) m)
@@ -30,8 +30,8 @@ add-m : tie.Need-add-m Inv-loop μ-loop
 add-m c = omega arith
 
 -- src/walks.rt:151:13
-place-in-requires : tie.Need-place-in-requires Inv-loop μ-loop
-place-in-requires c κs = search needs
+place-meant-requires : tie.Need-place-meant-requires Inv-loop μ-loop
+place-meant-requires c κs = search needs
 
 -- src/walks.rt:153:13
 enum-told : tie.Need-enum-told Inv-loop μ-loop
@@ -51,7 +51,7 @@ loop-again c = (
   omega arith,
   refl,
   count-yes _ _ _ (c .before .before .before .before .loop .inv .2)
-      (ap isQueued (sym (c .before .before .place-in .ensures) ∙ c .enum-told .given .1)),
+      (ap isQueued (sym (c .before .before .place-meant .ensures) ∙ c .enum-told .given .1)),
 )
 
 -- src/walks.rt:149:5
@@ -64,7 +64,7 @@ loop-again-2 c = (
   omega arith,
   refl,
   count-no _ _ _ (c .before .before .before .loop .inv .2)
-      (not-queued _ (c .before .place-in .result) (c .before .place-in .ensures) (c .match .keys2)),
+      (not-queued _ (c .before .place-meant .result) (c .before .place-meant .ensures) (c .match .keys2)),
 )
 
 -- src/walks.rt:143:1
@@ -83,7 +83,7 @@ count-queued-spec =
     μ-loop
     loop-holds
     add-m
-    place-in-requires
+    place-meant-requires
     enum-told
     add-n
     loop-less

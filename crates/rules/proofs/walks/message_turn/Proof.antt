@@ -13,13 +13,13 @@ use Rattle.rules.proofs.walks.message_turn.Tie as tie
 use Rattle.rules.proofs.walks.message_turn.Reads as reads
 use Rattle.rules.proofs.walks.message_turn.Lts as lts
 use Rattle.board.proofs.priority.number.Reads as number-reads
-use Rattle.board.proofs.whole.link_in.Reads as link-in-reads
-use Rattle.board.proofs.whole.prio_in.Reads as prio-in-reads
-use Rattle.board.proofs.whole.queued_in.Reads as queued-in-reads
+use Rattle.board.proofs.words.link_meant.Reads as link-meant-reads
+use Rattle.board.proofs.words.prio_meant.Reads as prio-meant-reads
+use Rattle.board.proofs.words.queued_meant.Reads as queued-meant-reads
 
 -- src/walks.rt:108:9
-queued-in-requires : tie.Need-queued-in-requires
-queued-in-requires c κs = search needs
+queued-meant-requires : tie.Need-queued-meant-requires
+queued-meant-requires c κs = search needs
 
 -- src/walks.rt:109:9
 returns : tie.Need-returns
@@ -27,11 +27,11 @@ returns c =
     let a = c .before .before .before .args in
     let b = boardOf (a .z) (now (a .b)) in
     turn-strays (nextMessage b) (messageNumber b) (queuedAt b (a .k)) (a .m) (a .low)
-    (sym (c .before .queued-in .ensures) ∙ not-true _ (c .if1 .taken))
+    (sym (c .before .queued-meant .ensures) ∙ not-true _ (c .if1 .taken))
 
 -- src/walks.rt:111:20
-prio-in-requires : tie.Need-prio-in-requires
-prio-in-requires c κs = search needs
+prio-meant-requires : tie.Need-prio-meant-requires
+prio-meant-requires c κs = search needs
 
 -- src/walks.rt:111:9
 number-requires : tie.Need-number-requires
@@ -44,12 +44,12 @@ returns-2 c =
     let a = q .before .before .args in
     let b = boardOf (a .z) (now (a .b)) in
     turn-falls (nextMessage b) (messageNumber b) (queuedAt b (a .k)) (a .m) (a .low) _
-    (sym (q .queued-in .ensures) ∙ not-false _ (c .before .before .before .if1 .left))
-    (c .before .number .ensures ∙ ap number (c .before .before .prio-in .ensures)) (omega arith)
+    (sym (q .queued-meant .ensures) ∙ not-false _ (c .before .before .before .if1 .left))
+    (c .before .number .ensures ∙ ap number (c .before .before .prio-meant .ensures)) (omega arith)
 
 -- src/walks.rt:116:15
-link-in-requires : tie.Need-link-in-requires
-link-in-requires c κs = search needs
+link-meant-requires : tie.Need-link-meant-requires
+link-meant-requires c κs = search needs
 
 -- src/walks.rt:104:1
 returns-3 : tie.Need-returns-3
@@ -58,17 +58,17 @@ returns-3 c =
     let a = q .before .before .args in
     let b = boardOf (a .z) (now (a .b)) in
     turn-goes-on (nextMessage b) (messageNumber b) (queuedAt b (a .k)) (a .m) (a .low) _ _
-    (sym (q .queued-in .ensures) ∙ not-false _ (c .before .before .before .before .if1 .left)) (c .link-in .ensures)
-    (c .before .before .number .ensures ∙ ap number (c .before .before .before .prio-in .ensures)) (omega arith)
+    (sym (q .queued-meant .ensures) ∙ not-false _ (c .before .before .before .before .if1 .left)) (c .link-meant .ensures)
+    (c .before .before .number .ensures ∙ ap number (c .before .before .before .prio-meant .ensures)) (omega arith)
 
 pub message-turn-spec : {M : Type 1} → statement M
 message-turn-spec =
     tie.close
     (tie.spec
-    queued-in-requires
+    queued-meant-requires
     returns
-    prio-in-requires
+    prio-meant-requires
     number-requires
     returns-2
-    link-in-requires
+    link-meant-requires
     returns-3)

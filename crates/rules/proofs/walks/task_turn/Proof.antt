@@ -14,11 +14,11 @@ use Rattle.rules.proofs.walks.task_turn.Reads as reads
 use Rattle.rules.proofs.walks.task_turn.Lts as lts
 use Rattle.board.proofs.priority.number.Reads as number-reads
 use Rattle.board.proofs.records.Task.present.Reads as present-reads
-use Rattle.board.proofs.whole.task_in.Reads as task-in-reads
+use Rattle.board.proofs.words.task_meant.Reads as task-meant-reads
 
 -- src/walks.rt:31:9
-task-in-requires : tie.Need-task-in-requires
-task-in-requires c κs = search needs
+task-meant-requires : tie.Need-task-meant-requires
+task-meant-requires c κs = search needs
 
 -- src/walks.rt:32:9
 present-requires : tie.Need-present-requires
@@ -29,7 +29,7 @@ returns : tie.Need-returns
 returns c =
     let a = c .before .before .before .before .args in
     let b = boardOf (a .z) (now (a .b)) in
-    let t = c .before .before .task-in in
+    let t = c .before .before .task-meant in
     turn-strays (nextTask b) (taskNumber b) (present b) (a .k) (a .low)
     (sym (c .before .present .ensures ∙ ap isThere (t .ensures)) ∙ not-true _ (c .if1 .taken))
 
@@ -42,7 +42,7 @@ returns-2 : tie.Need-returns-2
 returns-2 c =
     let a = c .before .before .before .before .before .before .args in
     let b = boardOf (a .z) (now (a .b)) in
-    let t = c .before .before .before .before .task-in in
+    let t = c .before .before .before .before .task-meant in
     let e = sym (c .before .before .before .present .ensures ∙ ap isThere (t .ensures)) ∙ not-false _
     (c .before .before .if1 .left) in
     turn-falls (nextTask b) (taskNumber b) (present b) (a .k) (a .low) _ e
@@ -53,7 +53,7 @@ returns-3 : tie.Need-returns-3
 returns-3 c =
     let a = c .before .before .before .before .before .before .args in
     let b = boardOf (a .z) (now (a .b)) in
-    let t = c .before .before .before .before .task-in in
+    let t = c .before .before .before .before .task-meant in
     let e = sym (c .before .before .before .present .ensures ∙ ap isThere (t .ensures)) ∙ not-false _
     (c .before .before .if1 .left) in
     turn-goes-on (nextTask b) (taskNumber b) (present b) (a .k) (a .low) _ _ e (ap (λ (r : Task). r .link) (t .ensures))
@@ -62,4 +62,4 @@ returns-3 c =
 pub task-turn-spec : {M : Type 1} → statement M
 task-turn-spec =
     tie.close
-    (tie.spec task-in-requires present-requires returns number-requires returns-2 returns-3)
+    (tie.spec task-meant-requires present-requires returns number-requires returns-2 returns-3)

@@ -12,7 +12,7 @@ use Rattle.rules.proofs.walks.walk_queue.Statement.{statement}
 use Rattle.rules.proofs.walks.walk_queue.Tie as tie
 use Rattle.rules.proofs.walks.walk_queue.Reads as reads
 use Rattle.rules.proofs.walks.walk_queue.Lts as lts
-use Rattle.board.proofs.whole.task_in.Reads as task-in-reads
+use Rattle.board.proofs.words.task_meant.Reads as task-meant-reads
 use Rattle.rules.proofs.walks.message_turn.Reads as message-turn-reads
 
 abbrev Inv-loop : tie.InvT-loop
@@ -30,8 +30,8 @@ cast-most : tie.Need-cast-most Inv-loop μ-loop
 cast-most c = search needs
 
 -- src/walks.rt:121:9
-task-in-requires : tie.Need-task-in-requires Inv-loop μ-loop
-task-in-requires c κs = search needs
+task-meant-requires : tie.Need-task-meant-requires Inv-loop μ-loop
+task-meant-requires c κs = search needs
 
 -- src/walks.rt:125:5
 loop-holds : tie.Need-loop-holds Inv-loop μ-loop
@@ -41,7 +41,7 @@ loop-holds c =
       omega arith,
       refl,
       walk-starts (nextMessage b) (messageNumber b) (queuedAt b (a .k)) (a .z .messages)
-          (ap (λ (t : Task). t .mptr) (c .task-in .ensures)),
+          (ap (λ (t : Task). t .mptr) (c .task-meant .ensures)),
     )
 
 -- src/walks.rt:127:13
@@ -103,7 +103,7 @@ walk-queue-spec =
     Inv-loop
     μ-loop
     cast-most
-    task-in-requires
+    task-meant-requires
     loop-holds
     returns
     message-turn-requires

@@ -1,10 +1,10 @@
 use native.Mathlib.Omega.{arith}
 use Rattle.board.proofs.Fields.{says-not, says-so}
 use borrow.Author.Needs.{needs}
-use Rattle.board.proofs.whole.says_queued.Statement.{statement}
-use Rattle.board.proofs.whole.says_queued.Tie as tie
-use Rattle.board.proofs.whole.says_queued.Reads as reads
-use Rattle.board.proofs.whole.says_queued.Lts as lts
+use Rattle.board.proofs.bytes.says_queued.Statement.{statement}
+use Rattle.board.proofs.bytes.says_queued.Tie as tie
+use Rattle.board.proofs.bytes.says_queued.Reads as reads
+use Rattle.board.proofs.bytes.says_queued.Lts as lts
 
 -- src/whole.rt:142:20
 add-if1 : tie.Need-add-if1
