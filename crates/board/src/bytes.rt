@@ -17,37 +17,36 @@ use crate::records::Task;
 use crate::status::Status;
 
 // The byte at i, 0 past the end.
-pub fn byte(b: &[u8], i: u32) -> u8
+pub fn byte(b: &[u8], i: usize) -> u8
     ensures { λ res. ⌜ res ≡ getD (now (b .entry)) i 0 ⌝ }
 {
-    let j = i as usize;
-    if j < b.len() { b[j] } else { 0 }
+    if i < b.len() { b[i] } else { 0 }
 }
 
 // The byte at i, which is there.
-fn byte_in(b: &[u8], i: u32) -> u8
+fn byte_in(b: &[u8], i: usize) -> u8
     requires { ⌜ i < length (now b) ⌝ }
     ensures { λ res. ⌜ res ≡ getD (now (b .entry)) i 0 ⌝ }
 {
-    b[i as usize]
+    b[i]
 }
 
-fn put_byte(b: &mut [u8], i: u32, v: u8)
+fn put_byte(b: &mut [u8], i: usize, v: u8)
     requires { ⌜ i < length (now b) ⌝ }
     ensures { λ _. ⌜ now (b .exit) ≡ set (now (b .entry)) i v ⌝ }
 {
-    b[i as usize] = v;
+    b[i] = v;
 }
 
 // The word at i, low byte first.
-fn word(b: &[u8], i: u32) -> u16
+fn word(b: &[u8], i: usize) -> u16
     requires { ⌜ (i < 4000000) × (i + 1 < length (now b)) ⌝ }
     ensures { λ res. ⌜ res ≡ wordAt (now (b .entry)) i ⌝ }
 {
     byte_in(b, i) as u16 + 256 * (byte_in(b, i + 1) as u16)
 }
 
-fn put_word(b: &mut [u8], i: u32, w: u16)
+fn put_word(b: &mut [u8], i: usize, w: u16)
     requires { ⌜ (i < 4000000) × (i + 1 < length (now b)) ⌝ }
     ensures { λ _. ⌜ now (b .exit) ≡ set (set (now (b .entry)) i (w % 256)) (i + 1) (w / 256) ⌝ }
 {
@@ -74,11 +73,11 @@ pub fn task_at(z: Size, b: &[u8], k: TaskNo) -> Task
     requires { ⌜ total z ≤ length (now b) ⌝ }
     ensures { λ res. ⌜ res ≡ task (boardOf z (now (b .entry))) (k .0) ⌝ }
 {
-    let n = k.number() as u32;
+    let n = k.number() as usize;
     if n == 0 {
         return Task::none();
     }
-    if (z.tasks as u32) < n {
+    if (z.tasks as usize) < n {
         return Task::none();
     }
     let o = n * 10 - 6;
@@ -96,11 +95,11 @@ pub fn put_task(z: Size, b: &mut [u8], k: TaskNo, t: Task)
     requires { ⌜ total z ≤ length (now b) ⌝ }
     ensures { λ _. ⌜ now (b .exit) ≡ putTask z (now (b .entry)) (k .0) t ⌝ }
 {
-    let n = k.number() as u32;
+    let n = k.number() as usize;
     if n == 0 {
         return;
     }
-    if (z.tasks as u32) < n {
+    if (z.tasks as usize) < n {
         return;
     }
     let o = n * 10 - 6;
@@ -117,14 +116,14 @@ pub fn message_at(z: Size, b: &[u8], m: MsgNo) -> Message
     requires { ⌜ total z ≤ length (now b) ⌝ }
     ensures { λ res. ⌜ res ≡ message (boardOf z (now (b .entry))) (m .0) ⌝ }
 {
-    let n = m.number() as u32;
+    let n = m.number() as usize;
     if n == 0 {
         return Message::none();
     }
-    if (z.messages as u32) < n {
+    if (z.messages as usize) < n {
         return Message::none();
     }
-    let o = 10 * (z.tasks as u32) + n * 8 - 4;
+    let o = 10 * (z.tasks as usize) + n * 8 - 4;
     Message {
         stat: byte_in(b, o),
         prio: byte_in(b, o + 1),
@@ -138,14 +137,14 @@ pub fn put_message(z: Size, b: &mut [u8], m: MsgNo, r: Message)
     requires { ⌜ total z ≤ length (now b) ⌝ }
     ensures { λ _. ⌜ now (b .exit) ≡ putMessage z (now (b .entry)) (m .0) r ⌝ }
 {
-    let n = m.number() as u32;
+    let n = m.number() as usize;
     if n == 0 {
         return;
     }
-    if (z.messages as u32) < n {
+    if (z.messages as usize) < n {
         return;
     }
-    let o = 10 * (z.tasks as u32) + n * 8 - 4;
+    let o = 10 * (z.tasks as usize) + n * 8 - 4;
     put_byte(b, o, r.stat);
     put_byte(b, o + 1, r.prio);
     put_word(b, o + 2, r.link);
@@ -157,16 +156,19 @@ pub fn place_at(z: Size, b: &[u8], m: MsgNo) -> Place
     requires { ⌜ total z ≤ length (now b) ⌝ }
     ensures { λ res. ⌜ res ≡ place (boardOf z (now (b .entry))) (m .0) ⌝ }
 {
-    let n = m.number() as u32;
+    let n = m.number() as usize;
     if n == 0 {
         return Place::Free;
     }
-    if (z.messages as u32) < n {
+    if (z.messages as usize) < n {
         return Place::Free;
     }
     Place::of(
         z,
-        byte_in(b, 10 * (z.tasks as u32) + 8 * (z.messages as u32) + n + 3),
+        byte_in(
+            b,
+            10 * (z.tasks as usize) + 8 * (z.messages as usize) + n + 3,
+        ),
     )
 }
 
@@ -174,16 +176,16 @@ pub fn put_place(z: Size, b: &mut [u8], m: MsgNo, p: Place)
     requires { ⌜ total z ≤ length (now b) ⌝ }
     ensures { λ _. ⌜ now (b .exit) ≡ putPlace z (now (b .entry)) (m .0) p ⌝ }
 {
-    let n = m.number() as u32;
+    let n = m.number() as usize;
     if n == 0 {
         return;
     }
-    if (z.messages as u32) < n {
+    if (z.messages as usize) < n {
         return;
     }
     put_byte(
         b,
-        10 * (z.tasks as u32) + 8 * (z.messages as u32) + n + 3,
+        10 * (z.tasks as usize) + 8 * (z.messages as usize) + n + 3,
         p.byte(),
     );
 }
@@ -193,14 +195,14 @@ pub fn link_of(z: Size, b: &[u8], m: MsgNo) -> u16
     requires { ⌜ total z ≤ length (now b) ⌝ }
     ensures { λ res. ⌜ res ≡ message (boardOf z (now (b .entry))) (m .0) .link ⌝ }
 {
-    let n = m.number() as u32;
+    let n = m.number() as usize;
     if n == 0 {
         return 0;
     }
-    if (z.messages as u32) < n {
+    if (z.messages as usize) < n {
         return 0;
     }
-    word(b, 10 * (z.tasks as u32) + n * 8 - 2)
+    word(b, 10 * (z.tasks as usize) + n * 8 - 2)
 }
 
 // PRIO of message m.
@@ -208,14 +210,14 @@ pub fn prio_of(z: Size, b: &[u8], m: MsgNo) -> u8
     requires { ⌜ total z ≤ length (now b) ⌝ }
     ensures { λ res. ⌜ res ≡ message (boardOf z (now (b .entry))) (m .0) .prio ⌝ }
 {
-    let n = m.number() as u32;
+    let n = m.number() as usize;
     if n == 0 {
         return 0;
     }
-    if (z.messages as u32) < n {
+    if (z.messages as usize) < n {
         return 0;
     }
-    byte_in(b, 10 * (z.tasks as u32) + n * 8 - 3)
+    byte_in(b, 10 * (z.tasks as usize) + n * 8 - 3)
 }
 
 // Message m is queued at task k.
@@ -223,17 +225,20 @@ pub fn queued_at(z: Size, b: &[u8], k: u16, m: MsgNo) -> bool
     requires { ⌜ total z ≤ length (now b) ⌝ }
     ensures { λ res. ⌜ res ≡ isQueuedAt k (place (boardOf z (now (b .entry))) (m .0)) ⌝ }
 {
-    let n = m.number() as u32;
+    let n = m.number() as usize;
     if n == 0 {
         return false;
     }
-    if (z.messages as u32) < n {
+    if (z.messages as usize) < n {
         return false;
     }
     says_queued(
         z,
         k,
-        byte_in(b, 10 * (z.tasks as u32) + 8 * (z.messages as u32) + n + 3),
+        byte_in(
+            b,
+            10 * (z.tasks as usize) + 8 * (z.messages as usize) + n + 3,
+        ),
     )
 }
 

@@ -2,7 +2,7 @@
 -- Assumes nothing.
 use mathlib.Core.Path.{_≡_, refl, sym, ap, _∙_}
 use mathlib.Core.Logic.{⊎-elim}
-use mathlib.Core.Bool.{Bool, true, false, not, _&&_, _||_, and-true, and-false}
+use mathlib.Core.Bool.{Bool, true, false, not, _&&_, _||_, and-true, and-false, or-false, true≢false}
 use mathlib.Core.List.{List, [], _∷_}
 use Prim.Native.Nat.{ℕ}
 use native.Mathlib.Omega.{arith}
@@ -20,14 +20,15 @@ use Rattle.board.specs.declared.records.Task.{Task}
 use Rattle.board.specs.declared.places.Place.{Place}
 use Rattle.board.specs.declared.places.Place.the-variants.{Free, HeldBy, QueuedAt, Nowhere}
 use Rattle.board.specs.Numbers.{outside, taskMeant}
-use Rattle.board.specs.Status.{WAIT, IWAT, INTQ, MHBS, has}
+use Rattle.board.specs.Status.{WAIT, IWAT, BIT5, INTQ, MHBS, has, isPresent}
 use Rattle.board.specs.Records.{noTask}
 use Rattle.board.specs.Board.{boardOf, task}
 use Rattle.board.proofs.places.Place.{the-type}
 use Rattle.board.proofs.Pieces.{nth-outside}
 use Rattle.board.proofs.Codec.{length-tasks}
 use Rattle.board.proofs.Meant.{taskMeant-task, taskMeant-none}
-use Rattle.paper.specs.Rules.{running, allZero, goodFlags, rule7}
+use Rattle.paper.specs.Rules.{running, allZero, zeroTask, taskPrio, goodHead, goodTask, goodFlags, rule7}
+use Rattle.linked.proofs.Tests.{says-zeroTask}
 use Rattle.rules.specs.Walks.{isQueued}
 
 -- ---- bytes 1 to 3
@@ -38,6 +39,18 @@ zeros-read (x ∷ []) = refl
 zeros-read (x ∷ y ∷ []) = refl
 zeros-read (x ∷ y ∷ u ∷ []) = refl
 zeros-read (x ∷ y ∷ u ∷ v ∷ l) = ap (λ (t : Bool). eqb y 0 && (eqb u 0 && t)) (and-true (eqb v 0))
+
+-- ---- R2: a record with TCBB isn't ten zero bytes, and one without it must be
+pub task-there : (t : Task) → isPresent (t .stat) ≡ true → goodHead (t .stat) (t .prio) ≡ goodTask t
+task-there t h = go (zeroTask t) refl
+  where
+    go : (s : Bool) → zeroTask t ≡ s → goodHead (t .stat) (t .prio) ≡ goodTask t
+    go true e = absurd (true≢false (sym h ∙ ap (λ (u : Task). isPresent (u .stat)) (says-zeroTask t .0 e)))
+    go false e = ap (λ (s : Bool). s || goodHead (t .stat) (t .prio)) (sym e)
+
+pub task-away : (t : Task) → isPresent (t .stat) ≡ false → zeroTask t ≡ goodTask t
+task-away t h =
+    sym (ap (λ (s : Bool). zeroTask t || s && not (has (t .stat) BIT5) && taskPrio (t .prio)) h ∙ or-false (zeroTask t))
 
 -- ---- R6: the flags of a task, and whether its queue is empty
 absorbed : (s t : Bool) → s && (s || t) ≡ s

@@ -80,10 +80,10 @@ fn good_head(s: Status, p: u8) -> bool
 fn good_task(t: Task) -> bool
     ensures { λ res. ⌜ res ≡ goodTask t ⌝ }
 {
-    if zero_task(t) {
-        return true;
+    if t.present() {
+        return good_head(t.stat, t.prio);
     }
-    good_head(t.stat, t.prio)
+    zero_task(t)
 }
 
 pub fn rule2(z: Size, b: &[u8]) -> bool

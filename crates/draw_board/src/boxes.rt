@@ -1,0 +1,132 @@
+// The messages of a task as boxes: those of its queue with an arrow to each from the one before, and those that it holds.
+ghost use lib.ListN.{length};
+ghost use Rattle.board.specs.Numbers.{small};
+ghost use Rattle.board.specs.Board.{total};
+ghost use Prim.Native.Nat.{_≤_};
+use crate::rows::BESIDE;
+use crate::rows::ROW;
+use board::bytes::message_at;
+use board::numbers::MessageMeant;
+use board::numbers::MsgNo;
+use board::numbers::Size;
+use board::numbers::TaskNo;
+use board::priority::fifo;
+use board::priority::number;
+use board::records::Message;
+use board::words::message_meant;
+use board::words::place_meant;
+use inner::tests::held_by;
+use words::print::decimal;
+use words::print::text;
+
+// What a person sees who points at the box.
+fn draw_details(m: u16, r: Message) {
+    text(b"<title>message ");
+    decimal(m as u64);
+    text(b", priority ");
+    decimal(number(r.prio) as u64);
+    if fifo(r.prio) {
+        text(b", FIFO");
+    } else {
+        text(b", LIFO");
+    }
+    if r.sptr != 0 {
+        text(b", from task ");
+        decimal(r.sptr as u64);
+    }
+    if r.rptr != 0 {
+        text(b", to task ");
+        decimal(r.rptr as u64);
+    }
+    text(b"</title>");
+}
+
+// The box of message n of a list whose first row is at y.
+fn start_box(class: &[u8], n: u32, y: u32) {
+    text(b"<g class='");
+    text(class);
+    text(b"' transform='translate(");
+    decimal(380 + 88 * ((n % BESIDE) as u64));
+    text(b",");
+    decimal(y as u64 + 10 + (ROW as u64) * ((n / BESIDE) as u64));
+    text(b")'>");
+}
+
+// LIFO has a broken line.
+fn start_held(r: Message, n: u32, y: u32) {
+    if fifo(r.prio) {
+        start_box(b"held", n, y);
+    } else {
+        start_box(b"held lifo", n, y);
+    }
+}
+
+fn draw_box(m: u16, r: Message) {
+    draw_details(m, r);
+    text(b"<rect width='70' height='30' rx='5'/><text class='no' x='8' y='20'>");
+    decimal(m as u64);
+    text(b"</text><text class='pr' x='63' y='20'>p");
+    decimal(number(r.prio) as u64);
+    text(b"</text></g>\n");
+}
+
+// From the task's box to the first, from the end of a row down to the next row, and from a box to the one beside it.
+fn draw_arrow(n: u32) {
+    if n == 0 {
+        text(b"<path d='M-40,15 h34'/>");
+        return;
+    }
+    if n % BESIDE == 0 {
+        text(b"<path d='M774,-29 h12 v22 H-22 v22 h16'/>");
+        return;
+    }
+    text(b"<path d='M-18,15 h12'/>");
+}
+
+// The queue in its order. It has no more than the 128 blocks of the board.
+pub(crate) fn draw_queue(b: &[u8], first: u16)
+    requires { ⌜ total small ≤ length (now b) ⌝ }
+{
+    let mut link = first;
+    let mut n: u32 = 0;
+    while n < 128 {
+        let meant = MsgNo::meant(Size::SMALL, link);
+        let MessageMeant::Message(m) = meant else {
+            return;
+        };
+        let r = message_at(Size::SMALL, b, m);
+        start_box(b"queued", n, 0);
+        draw_arrow(n);
+        draw_box(m.number(), r);
+        link = r.link;
+        n += 1;
+    }
+}
+
+fn draw_label(y: u32) {
+    text(b"<text class='label' x='370' y='");
+    decimal(y as u64 + 30);
+    text(b"'>holds</text>\n");
+}
+
+// What the task holds, below so many rows of its queue.
+pub(crate) fn draw_held(b: &[u8], k: TaskNo, below: u32)
+    requires { ⌜ total small ≤ length (now b) ⌝ }
+    requires { ⌜ below ≤ 7300 ⌝ }
+{
+    let y = ROW * below;
+    let mut m: u16 = 0;
+    let mut n: u32 = 0;
+    while m < 128 {
+        m += 1;
+        if held_by(place_meant(Size::SMALL, b, m), k) {
+            if n == 0 {
+                draw_label(y);
+            }
+            let r = message_meant(Size::SMALL, b, m);
+            start_held(r, n, y);
+            draw_box(m, r);
+            n += 1;
+        }
+    }
+}

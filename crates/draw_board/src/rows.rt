@@ -1,0 +1,77 @@
+// How high the rows of the picture are. A task's row is as high as its box at least, and has room for the rows of its messages.
+ghost use lib.ListN.{length};
+ghost use Rattle.board.specs.Numbers.{small};
+ghost use Rattle.board.specs.Board.{total};
+ghost use Prim.Native.Nat.{_<_, _≤_};
+use board::bytes::first_task;
+use board::bytes::task_at;
+use board::numbers::Size;
+use board::numbers::TaskMeant;
+use board::numbers::TaskNo;
+use board::places::Place;
+use words::totals::blocks;
+
+// Where the first task is drawn.
+pub(crate) const TOP: u32 = 86;
+
+// How many messages stand beside each other, and how far apart their rows are.
+pub(crate) const BESIDE: u32 = 9;
+
+pub(crate) const ROW: u32 = 44;
+
+fn rows_of(n: u32) -> u32
+    requires { ⌜ n < 65536 ⌝ }
+    ensures { λ res. ⌜ res ≤ 7300 ⌝ }
+{
+    (n + BESIDE - 1) / BESIDE
+}
+
+pub(crate) fn queue_rows(b: &[u8], k: TaskNo) -> u32
+    requires { ⌜ total small ≤ length (now b) ⌝ }
+    ensures { λ res. ⌜ res ≤ 7300 ⌝ }
+{
+    let queue = Place::QueuedAt(k);
+    let at = queue.byte();
+    rows_of(blocks(b, at, at) as u32)
+}
+
+fn held_rows(b: &[u8], k: TaskNo) -> u32
+    requires { ⌜ total small ≤ length (now b) ⌝ }
+    ensures { λ res. ⌜ res ≤ 7300 ⌝ }
+{
+    let hands = Place::HeldBy(k);
+    let at = hands.byte();
+    rows_of(blocks(b, at, at) as u32)
+}
+
+pub(crate) fn row_height(b: &[u8], k: TaskNo) -> u32
+    requires { ⌜ total small ≤ length (now b) ⌝ }
+    ensures { λ res. ⌜ (66 ≤ res) × (res ≤ 700000) ⌝ }
+{
+    let n = queue_rows(b, k) + held_rows(b, k);
+    if n < 2 {
+        return 66;
+    }
+    ROW * n + 12
+}
+
+// Where the last row ends. A board that passes has no more than 32 tasks.
+pub(crate) fn foot(b: &[u8]) -> u32
+    requires { ⌜ total small ≤ length (now b) ⌝ }
+    ensures { λ res. ⌜ res ≤ 22400086 ⌝ }
+{
+    let mut link = first_task(b) as u16;
+    let mut left: u32 = 32;
+    let mut y = TOP;
+    while 0 < left {
+        let meant = TaskNo::meant(Size::SMALL, link);
+        let TaskMeant::Task(k) = meant else {
+            return y;
+        };
+        y += row_height(b, k);
+        let t = task_at(Size::SMALL, b, k);
+        link = t.link;
+        left -= 1;
+    }
+    y
+}

@@ -1,0 +1,123 @@
+// PROGRAM. A board from standard input as tables: the totals, then the tasks in queue order, each with its state, what it holds and what is
+// queued at it. A board that the check refuses is not shown; its refusal is told.
+mod lists;
+
+ghost use Prim.Native.Nat.{_≤_};
+ghost use lib.ListN.{length};
+ghost use Rattle.board.specs.Numbers.{small};
+ghost use Rattle.board.specs.Board.{total};
+use board::bytes::first_task;
+use board::bytes::task_at;
+use board::numbers::Size;
+use board::numbers::TaskMeant;
+use board::numbers::TaskNo;
+use board::priority::number;
+use board::records::Task;
+use board::status::Status;
+use libc::STDIN_FILENO;
+use lists::show_held;
+use lists::show_queue;
+use words::print::decimal_in;
+use words::print::hex_word;
+use words::print::shown;
+use words::print::text;
+use words::state::DEBUG;
+use words::state::MROB;
+use words::state::print_state;
+use words::state::state_of;
+use words::totals::tell_blocks;
+use words::totals::tell_installed;
+use words::verdict::Verdict;
+use words::verdict::judged;
+use words::verdict::tell_running;
+
+fn show_totals(b: &[u8], runs: u16)
+    requires { ⌜ total small ≤ length (now b) ⌝ }
+{
+    tell_installed(b);
+    text(b"; ");
+    tell_running(runs);
+    text(b"\n");
+    tell_blocks(b);
+    text(b"\n");
+}
+
+// The name as two characters, low byte first as it is stored, and as a word.
+fn show_name(w: u16) {
+    text(b"  '");
+    text(&[shown((w % 256) as u8), shown((w / 256) as u8)]);
+    text(b"' ");
+    hex_word(w);
+}
+
+fn show_flag(s: Status, bit: u8, meaning: &[u8]) {
+    if s.has(bit) {
+        text(b", ");
+        text(meaning);
+    }
+}
+
+fn show_state(s: Status, runs: bool) {
+    print_state(state_of(s, runs));
+    show_flag(s, Status::INTQ, b"an interrupt is posted (INTQ)");
+    show_flag(s, DEBUG, b"being debugged (DEBUG)");
+    show_flag(s, MROB, b"main registers only (MROB)");
+    text(b"\n");
+}
+
+fn show_task(k: TaskNo, t: Task, runs: bool) {
+    if runs {
+        text(b">");
+    } else {
+        text(b" ");
+    }
+    decimal_in(k.number() as u64, 5);
+    show_name(t.name);
+    decimal_in(number(t.prio) as u64, 10);
+    text(b"  ");
+    hex_word(t.sptr);
+    text(b"  ");
+    show_state(t.stat, runs);
+}
+
+// The tasks in queue order. A board that passes has no more than 32.
+fn show_tasks(b: &[u8], runs: u16)
+    requires { ⌜ total small ≤ length (now b) ⌝ }
+{
+    text(b"\n  task  name        priority  SPTR   state\n");
+    let mut link = first_task(b) as u16;
+    let mut left: u16 = 32;
+    while 0 < left {
+        let meant = TaskNo::meant(Size::SMALL, link);
+        let TaskMeant::Task(k) = meant else {
+            return;
+        };
+        let t = task_at(Size::SMALL, b, k);
+        show_task(k, t, link == runs);
+        show_held(b, k);
+        show_queue(b, k, t.mptr);
+        link = t.link;
+        left -= 1;
+    }
+}
+
+fn show(b: &[u8]) {
+    let verdict = judged(b);
+    let Verdict::Passes(runs) = verdict else {
+        return;
+    };
+    // what passes is whole: the readers want to see it
+    if b.len() < 1476 {
+        return;
+    }
+    show_totals(b, runs);
+    if first_task(b) != 0 {
+        show_tasks(b, runs);
+    }
+}
+
+fn main() {
+    let mut space = io::large_buffer();
+    let n = io::read_full(STDIN_FILENO, &mut space);
+    show(&space[..n]);
+}

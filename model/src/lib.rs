@@ -1,0 +1,32 @@
+//! Document 01 in plain safe Rust: a board of lent bytes, changed in place, and the nineteen calls.
+//!
+//! It was written from the paper alone, without a look at the proved code, and serves to be compared with that code, in
+//! answers and in speed. So it is plain: every test of a call comes before its first write, and nothing is copied.
+//!
+//! | Module | Holds |
+//! |---|---|
+//! | [`board`] | where each record lies, and its fields |
+//! | [`check`](mod@check) | the rules R1 to R7, and who runs |
+//! | [`calls`] | the nineteen calls, the wait forms and dispatch |
+//! | [`answer`] | answers, refusals and rules by number |
+//! | [`runner`] | the differential run: cases made from a seed, another program's answers, and the counts |
+//!
+//! `compare` is the differential run and `answer` the model behind the text protocol of `run_cases`:
+//!
+//! ```text
+//! cargo run --offline --release --bin compare -- -- PROGRAM     the kept seeds
+//! cargo run --offline --release --bin compare -- --for 0 -- PROGRAM    until it is stopped
+//! ```
+
+#![forbid(unsafe_code)]
+#![warn(missing_docs)]
+
+pub mod answer;
+pub mod board;
+pub mod calls;
+pub mod check;
+pub mod runner;
+
+pub use answer::{Answer, Refusal, Rule};
+pub use calls::{fresh, step, Call};
+pub use check::{broken_rule, check};

@@ -1,0 +1,160 @@
+//! A case of the protocol of `run_cases`, and the line that answers it.
+
+use std::fmt::Write;
+use std::io::{self, Read};
+
+use crate::{check, fresh, step, Answer, Call};
+
+/// The kind that checks a board.
+pub const CHECK: u8 = 0;
+/// The kind that makes a fresh board.
+pub const FRESH: u8 = 20;
+/// The number given for a kind that is no call.
+pub const NO_CALL: u8 = 255;
+
+/// The kinds by number.
+pub const KIND_NAMES: [&str; 21] = [
+    "check",
+    "install",
+    "post interrupt",
+    "find",
+    "cancel task",
+    "claim",
+    "prepare",
+    "release",
+    "send",
+    "send and wait",
+    "resend",
+    "resend and wait",
+    "forward",
+    "forward and wait",
+    "return",
+    "return and wait",
+    "receive",
+    "receive and wait",
+    "cancel message",
+    "wait for interrupt",
+    "fresh",
+];
+
+const REQUEST_LEN: usize = 9;
+
+/// What is asked of a board: a kind and its arguments.
+#[derive(Clone, Copy, Debug, Default, PartialEq, Eq)]
+#[allow(missing_docs)] // the fields bear the names of the C interface
+pub struct Request {
+    pub kind: u8,
+    pub a: u16,
+    pub b: u16,
+    pub c: u16,
+    pub stat: u8,
+    pub prio: u8,
+}
+
+impl Request {
+    /// The call, if the kind is one of the nineteen.
+    pub fn call(&self) -> Option<Call> {
+        Call::from_kind(self.kind, self.a, self.b, self.c, self.stat, self.prio)
+    }
+
+    /// The request in words.
+    pub fn in_words(&self) -> String {
+        let Request { kind, a, b, c, stat, prio } = self;
+        let Some(name) = KIND_NAMES.get(usize::from(*kind)) else {
+            return format!("kind {kind}, which is no call");
+        };
+        match kind {
+            1 => format!("{name} task {a}, STAT {stat:02X}H, PRIO {prio:02X}H, SPTR {b:04X}H, NAME {c:04X}H"),
+            2 => format!("{name} at task {a}"),
+            3 => format!("{name} NAME {a:04X}H"),
+            4 => format!("{name} {a}"),
+            6 => format!("{name} message {a}, STAT {stat:02X}H, PRIO {prio:02X}H, SPTR {b}"),
+            7 | 10 | 11 | 14 | 15 => format!("{name}: message {a}"),
+            8 | 9 | 12 | 13 => format!("{name}: message {a} to task {b}"),
+            18 => format!("{name} {a} at task {b}"),
+            _ => name.to_string(),
+        }
+    }
+}
+
+/// A request and the board before it.
+#[derive(Clone, Debug, PartialEq, Eq)]
+pub struct Case {
+    /// What is asked.
+    pub request: Request,
+    /// The lent bytes, of any length that a word can say.
+    pub board: Vec<u8>,
+}
+
+impl Case {
+    /// Adds the case's bytes to those that a program reads.
+    pub fn write(&self, out: &mut Vec<u8>) {
+        let Request { kind, a, b, c, stat, prio } = self.request;
+        out.extend((self.board.len() as u16).to_le_bytes());
+        out.push(kind);
+        [a, b, c].iter().for_each(|word| out.extend(word.to_le_bytes()));
+        out.extend([stat, prio]);
+        out.extend(&self.board);
+    }
+
+    /// The next case, none at the end; a case cut short is an error.
+    pub fn read(from: &mut impl Read) -> io::Result<Option<Case>> {
+        let mut len = [0; 2];
+        if from.read(&mut len[..1])? == 0 {
+            return Ok(None);
+        }
+        from.read_exact(&mut len[1..])?;
+        let mut r = [0; REQUEST_LEN];
+        from.read_exact(&mut r)?;
+        let word = |at: usize| u16::from_le_bytes([r[at], r[at + 1]]);
+        let request = Request { kind: r[0], a: word(1), b: word(3), c: word(5), stat: r[7], prio: r[8] };
+        let mut board = vec![0; u16::from_le_bytes(len).into()];
+        from.read_exact(&mut board)?;
+        Ok(Some(Case { request, board }))
+    }
+
+    /// What the model makes of the case.
+    pub fn reply(&self) -> Reply {
+        let mut after = self.board.clone();
+        let answer = match (self.request.kind, self.request.call()) {
+            (CHECK, _) => Some(check(&after)),
+            (FRESH, _) => Some(fresh(&mut after)),
+            (_, call) => call.map(|call| step(&mut after, call)),
+        };
+        Reply { answer, after }
+    }
+}
+
+/// An answer, none if the kind is no call, and the board afterwards.
+#[derive(Clone, Debug, PartialEq, Eq)]
+#[allow(missing_docs)]
+pub struct Reply {
+    pub answer: Option<Answer>,
+    pub after: Vec<u8>,
+}
+
+impl Reply {
+    /// The refusal's number, 0 where accepted.
+    pub fn refusal(&self) -> u8 {
+        match self.answer {
+            None => NO_CALL,
+            Some(Answer::Refused(refusal)) => refusal.number(),
+            Some(Answer::Accepted { .. }) => 0,
+        }
+    }
+
+    /// The line of the protocol: four numbers, and each byte that changed.
+    pub fn line(&self, before: &[u8]) -> String {
+        let (value, running, delivered) = match self.answer {
+            Some(Answer::Accepted { value, running, delivered }) => (value, running, delivered),
+            _ => (0, 0, 0),
+        };
+        let mut line = format!("{} {value} {running} {delivered}", self.refusal());
+        for (at, (old, new)) in before.iter().zip(&self.after).enumerate() {
+            if old != new {
+                write!(line, " {at}={new}").expect("a string takes any text");
+            }
+        }
+        line
+    }
+}

@@ -1,0 +1,180 @@
+//! Faults put into a good board. Some leave it good, which is wanted too: such boards no history makes.
+
+use super::random::Random;
+use crate::board::{set_word, word, Board, MsgNo, Status, TaskNo, BOARD_LEN, MESSAGE_LEN, TASK_LEN, TASK_QUEUE};
+
+/// One to three faults.
+pub fn damage(b: &mut Board, random: &mut Random) {
+    for _ in 0..random.pick(&[1, 1, 1, 2, 3]) {
+        fault(b, random);
+    }
+}
+
+fn fault(b: &mut Board, random: &mut Random) {
+    match random.below(16) {
+        0 => b[random.below(BOARD_LEN)] = random.byte(),
+        1 => b[random.upto(3) as usize] = random.byte(),
+        2 | 3 => redirected_link(b, random),
+        4 | 5 => changed_place(b, random),
+        6 | 7 => shared_tail(b, random),
+        8 => loop_in_queue(b, random),
+        9..13 => flipped_status(b, random),
+        13 => swapped(b, random),
+        14 => changed_message_field(b, random),
+        _ => changed_task(b, random),
+    }
+}
+
+/// Numbers of the present tasks, and of the messages that are not free. Where there are none, number 1 stands for them.
+fn used(b: &Board) -> (Vec<TaskNo>, Vec<MsgNo>) {
+    let mut present: Vec<_> = TaskNo::all().filter(|k| k.is_present(b)).collect();
+    let mut in_use: Vec<_> = MsgNo::all().filter(|m| m.place(b) != 0).collect();
+    if present.is_empty() {
+        present.extend(TaskNo::all().next());
+    }
+    if in_use.is_empty() {
+        in_use.extend(MsgNo::all().next());
+    }
+    (present, in_use)
+}
+
+/// The messages of a queue, as far as a walk can go.
+fn queue(b: &Board, k: TaskNo) -> Vec<MsgNo> {
+    let mut met = Vec::new();
+    let mut slot = k.queue_slot();
+    while let Some(m) = MsgNo::new(word(b, slot)).filter(|m| !met.contains(m)) {
+        met.push(m);
+        slot = m.link_slot();
+    }
+    met
+}
+
+/// A queue that is not empty, if there is one.
+fn some_queue(b: &Board, random: &mut Random) -> Option<Vec<MsgNo>> {
+    let queues: Vec<_> = TaskNo::all().map(|k| queue(b, k)).filter(|queue| !queue.is_empty()).collect();
+    (!queues.is_empty()).then(|| queues[random.below(queues.len())].clone())
+}
+
+/// A link that leads elsewhere: to another record, to none, or to a number that is right but for its upper bits.
+fn redirected_link(b: &mut Board, random: &mut Random) {
+    let (present, in_use) = used(b);
+    let (k, m) = (random.pick(&present), random.pick(&in_use));
+    let (other_k, other_m) = (random.pick(&present).number(), random.pick(&in_use).number());
+    let (slot, number) = match random.below(4) {
+        0 => return redirected_head(b, other_k, random),
+        1 => (k.link_slot(), other_k),
+        2 => (k.queue_slot(), other_m),
+        _ => (m.link_slot(), other_m),
+    };
+    let target = match random.below(6) {
+        0 => 0,
+        1 => number | (random.upto(255) << 8),
+        2 => word(b, slot) ^ (random.upto(255) << 8),
+        3 => random.word(),
+        _ => number,
+    };
+    set_word(b, slot, target);
+}
+
+/// The same for the task queue's head, which has one byte; its neighbour is another rule's.
+fn redirected_head(b: &mut Board, number: u16, random: &mut Random) {
+    b[TASK_QUEUE] = match random.below(4) {
+        0 => 0,
+        1 => b[TASK_QUEUE] ^ random.pick(&[32, 64, 128, 192]),
+        2 => random.byte(),
+        _ => number as u8,
+    };
+}
+
+fn changed_place(b: &mut Board, random: &mut Random) {
+    let (present, in_use) = used(b);
+    let k = random.pick(&present);
+    let m = if random.chance(80) { random.pick(&in_use) } else { random.pick(&MsgNo::all().collect::<Vec<_>>()) };
+    b[m.place_at()] = match random.below(7) {
+        0 => 0,
+        1 => random.byte(),
+        2 => m.place(b) ^ random.pick(&[64, 128, 192]),
+        3 | 4 => k.held_place(),
+        _ => k.queued_place(),
+    };
+}
+
+/// The end of one queue leads into another, where priorities allow it.
+fn shared_tail(b: &mut Board, random: &mut Random) {
+    let (Some(one), Some(other)) = (some_queue(b, random), some_queue(b, random)) else { return };
+    let last = one.last().copied().filter(|_| random.chance(60));
+    let from = last.unwrap_or_else(|| random.pick(&one));
+    let fits = |m: &&MsgNo| m.priority(b) >= from.priority(b) && !one.contains(m);
+    let Some(into) = other.iter().find(fits).or(other.last()) else { return };
+    set_word(b, from.link_slot(), into.number());
+}
+
+fn loop_in_queue(b: &mut Board, random: &mut Random) {
+    if random.chance(30) {
+        let (present, _) = used(b);
+        let k = random.pick(&present);
+        let equal = random.pick_where(32, |other| TaskNo::new(other).is_some_and(|other| other.prio(b) == k.prio(b)));
+        set_word(b, k.link_slot(), equal.unwrap_or(k.number()));
+        return;
+    }
+    let Some(queue) = some_queue(b, random) else { return };
+    let from = random.pick(&queue);
+    let equal = queue.iter().find(|m| m.priority(b) == from.priority(b)).unwrap_or(&from);
+    set_word(b, from.link_slot(), equal.number());
+}
+
+/// A bit of a status, mostly one that R6 or R7 speaks of, and of a task with a queue or the running one.
+fn flipped_status(b: &mut Board, random: &mut Random) {
+    let (present, _) = used(b);
+    let with_queue: Vec<_> = present.iter().copied().filter(|k| word(b, k.queue_slot()) != 0).collect();
+    let from = if with_queue.is_empty() || random.chance(30) { present } else { with_queue };
+    let k = random.pick(&from);
+    let any = 1 << random.below(8);
+    let bit = random.pick(&[Status::WAIT, Status::IWAT, Status::INTQ, Status::MHBS, Status::MHBS, any]);
+    b[k.at()] ^= bit;
+}
+
+/// Two records of a kind change one field, or all of them.
+fn swapped(b: &mut Board, random: &mut Random) {
+    let (present, in_use) = used(b);
+    let (one, other, len) = if random.chance(50) {
+        (random.pick(&present).at(), random.pick(&present).at(), TASK_LEN)
+    } else {
+        (random.pick(&in_use).at(), random.pick(&in_use).at(), MESSAGE_LEN)
+    };
+    let field = 2 * random.below(len / 2);
+    let range = if random.chance(30) { 0..len } else { field..field + 2 };
+    range.for_each(|at| b.swap(one + at, other + at));
+}
+
+fn changed_message_field(b: &mut Board, random: &mut Random) {
+    let (_, in_use) = used(b);
+    let m = random.pick(&in_use);
+    match random.below(4) {
+        0 => b[m.prio_at()] = random.byte(),
+        1 => b[m.prio_at()] ^= random.pick(&[0x01, 0xFE, 0xFF]),
+        2 => set_word(b, m.rptr_at(), random.word()),
+        _ => set_word(b, m.sptr_at(), random.word()),
+    }
+}
+
+/// A task record gone, left over in part, or with another priority.
+fn changed_task(b: &mut Board, random: &mut Random) {
+    let (present, _) = used(b);
+    let k = random.pick(&present);
+    match random.below(5) {
+        0 => b[k.at()..k.at() + TASK_LEN].fill(0),
+        1 => b[k.prio_at()] = random.byte(),
+        2 | 3 => edge_priority(b, &present, random),
+        _ => b[random.pick(&TaskNo::all().collect::<Vec<_>>()).at() + random.below(TASK_LEN)] = random.byte(),
+    }
+}
+
+/// A priority at the edge of what a task may have, at the end of the queue where it breaks no order.
+fn edge_priority(b: &mut Board, present: &[TaskNo], random: &mut Random) {
+    let by_prio = |k: &&TaskNo| k.prio(b);
+    let (low, edges) = (random.chance(50), [0x03, 0x02, 0x01, 0xFC, 0xFD, 0xFE, 0xFF]);
+    let k = if low { present.iter().min_by_key(by_prio) } else { present.iter().max_by_key(by_prio) };
+    let edge = random.pick(if low { &edges[..3] } else { &edges[3..] });
+    k.iter().for_each(|k| b[k.prio_at()] = edge);
+}

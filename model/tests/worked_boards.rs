@@ -1,0 +1,268 @@
+//! The worked boards of document 01, and the order of refusals.
+
+use model::board::{word, Board, MsgNo, Status, TaskNo, BOARD_LEN};
+use model::{broken_rule, check, fresh, step, Answer, Call, Refusal, Rule};
+
+const EMPTY: Board = [0; BOARD_LEN];
+
+fn accepted(value: u16, running: u16, delivered: u16) -> Answer {
+    Answer::Accepted { value, running, delivered }
+}
+
+fn refused(number: u8) -> impl Fn(Answer) -> bool {
+    move |answer| matches!(answer, Answer::Refused(refusal) if refusal.number() == number)
+}
+
+fn install(task: u16, prio: u8) -> Call {
+    Call::Install { task, stat: 0x01, prio, sptr: 0, name: 0 }
+}
+
+/// A board with these tasks, numbered from 1.
+fn with_tasks(prios: &[u8]) -> Board {
+    let mut b = EMPTY;
+    for (task, prio) in (1..).zip(prios) {
+        accept(&mut b, install(task, *prio));
+    }
+    b
+}
+
+/// Makes a call that must be accepted.
+fn accept(b: &mut Board, call: Call) -> (u16, u16, u16) {
+    match step(b, call) {
+        Answer::Accepted { value, running, delivered } => (value, running, delivered),
+        Answer::Refused(refusal) => panic!("{call:?} is refused: {refusal:?}"),
+    }
+}
+
+/// Makes a call that must be refused with this number and change nothing.
+fn refuse(b: &Board, call: Call, number: u8) {
+    let mut after = *b;
+    let answer = step(&mut after, call);
+    assert!(refused(number)(answer), "{call:?} should be refused with {number}: {answer:?}");
+    assert_eq!(after, *b);
+}
+
+/// The running task claims a message and prepares it.
+fn claim_prepared(b: &mut Board, prio: u8) -> u16 {
+    let (message, ..) = accept(b, Call::Claim);
+    accept(b, Call::Prepare { message, stat: 0, prio, sptr: 0 });
+    message
+}
+
+fn claim_and_send(b: &mut Board, prio: u8, receiver: u16) -> u16 {
+    let message = claim_prepared(b, prio);
+    accept(b, Call::Send { message, receiver });
+    message
+}
+
+fn task(number: u16) -> TaskNo {
+    TaskNo::new(number).expect("a task number")
+}
+
+fn message(number: u16) -> MsgNo {
+    MsgNo::new(number).expect("a message number")
+}
+
+fn queue(b: &Board, k: u16) -> Vec<u16> {
+    let mut numbers = Vec::new();
+    let mut slot = task(k).queue_slot();
+    while let Some(m) = MsgNo::new(word(b, slot)) {
+        numbers.push(m.number());
+        slot = m.link_slot();
+    }
+    numbers
+}
+
+fn prios(b: &Board, numbers: &[u16]) -> Vec<u8> {
+    numbers.iter().map(|m| b[message(*m).prio_at()]).collect()
+}
+
+#[test]
+fn first_install() {
+    let mut b = EMPTY;
+    let call = Call::Install { task: 3, stat: 0x05, prio: 0x33, sptr: 0x1234, name: 0x4154 };
+    assert_eq!(step(&mut b, call), accepted(0, 3, 0));
+    let mut wanted = EMPTY;
+    wanted[0] = 3;
+    wanted[24..34].copy_from_slice(&[0x05, 0x33, 0, 0, 0, 0, 0x34, 0x12, 0x54, 0x41]);
+    assert_eq!(b, wanted);
+}
+
+#[test]
+fn four_messages_to_itself() {
+    let mut b = with_tasks(&[0x33]);
+    let sent = [0x14, 0x15, 0x14, 0x0B].map(|prio| claim_prepared(&mut b, prio));
+    assert_eq!(sent, [1, 2, 3, 4]);
+    for message in sent {
+        accept(&mut b, Call::Send { message, receiver: 1 });
+    }
+    assert_eq!(queue(&b, 1), [4, 3, 1, 2]);
+    assert_eq!(prios(&b, &[4, 3, 1, 2]), [0x0B, 0x15, 0x15, 0x15]);
+}
+
+#[test]
+fn priorities_of_an_install() {
+    for prio in [0x01, 0xFF, 0x00, 0x34] {
+        refuse(&EMPTY, install(1, prio), 7);
+    }
+    for prio in [0x03, 0xFD] {
+        assert_eq!(step(&mut { EMPTY }, install(1, prio)), accepted(0, 1, 0));
+    }
+}
+
+#[test]
+fn receive_on_an_empty_queue() {
+    let lone = with_tasks(&[0x33]);
+    assert_eq!(step(&mut { lone }, Call::Receive), accepted(0, 1, 0));
+    assert_eq!(step(&mut { lone }, Call::ReceiveAndWait), accepted(0, 0, 0));
+}
+
+#[test]
+fn send_and_wait_to_itself() {
+    let mut b = with_tasks(&[0x33]);
+    let message = claim_prepared(&mut b, 0x15);
+    assert_eq!(step(&mut b, Call::SendAndWait { message, receiver: 1 }), accepted(0, 1, message));
+}
+
+#[test]
+fn two_posts_and_two_waits() {
+    let mut b = with_tasks(&[0x33]);
+    let calls = [Call::Post { task: 1 }, Call::Post { task: 1 }, Call::WaitForInterrupt, Call::WaitForInterrupt];
+    let runs = calls.map(|call| accept(&mut b, call).1);
+    assert_eq!(runs, [1, 1, 1, 0]);
+}
+
+#[test]
+fn all_messages_claimed() {
+    let mut b = with_tasks(&[0x33]);
+    for number in 1..=128 {
+        assert_eq!(step(&mut b, Call::Claim), accepted(number, 1, 0));
+    }
+    refuse(&b, Call::Claim, 11);
+    accept(&mut b, Call::Release { message: 7 });
+    assert_eq!(step(&mut b, Call::Claim), accepted(7, 1, 0));
+}
+
+#[test]
+fn the_senders_priority() {
+    let mut b = with_tasks(&[0x33]);
+    let message = claim_prepared(&mut b, 0xFE);
+    refuse(&b, Call::Forward { message, receiver: 1 }, 7);
+    accept(&mut b, Call::Send { message, receiver: 1 });
+    assert_eq!(prios(&b, &[message]), [0x33]);
+}
+
+#[test]
+fn numbers_and_lengths_beyond_the_board() {
+    let b = with_tasks(&[0x33]);
+    for message in [0, 129, 256, 65535] {
+        refuse(&b, Call::Release { message }, 4);
+        refuse(&b, Call::CancelMessage { message, receiver: 33 }, 4);
+    }
+    for len in [0, 1, 1475, 1477, 65535] {
+        let mut lent = vec![7; len];
+        assert_eq!(check(&lent), Answer::Refused(Refusal::Length));
+        assert_eq!(fresh(&mut lent), Answer::Refused(Refusal::Length));
+        assert_eq!(step(&mut lent, Call::Claim), Answer::Refused(Refusal::Length));
+        assert!(lent.iter().all(|byte| *byte == 7));
+    }
+    for task in [0, 33, 257, 65535] {
+        refuse(&b, Call::Post { task }, 6);
+        refuse(&b, install(task, 0x33), 8);
+    }
+}
+
+#[test]
+fn fresh_mends_any_board() {
+    let mut b = [0xFF; BOARD_LEN];
+    assert_eq!(check(&b), Answer::Refused(Refusal::BrokenRule));
+    assert_eq!(fresh(&mut b), accepted(0, 0, 0));
+    assert_eq!(b, EMPTY);
+    assert_eq!(check(&b), accepted(0, 0, 0));
+}
+
+/// Task 1 waits for a message; task 2 is more urgent and runs.
+fn with_waiting_task() -> Board {
+    let mut b = with_tasks(&[0x05]);
+    assert_eq!(accept(&mut b, Call::ReceiveAndWait), (0, 0, 0));
+    assert_eq!(accept(&mut b, install(2, 0x03)), (0, 2, 0));
+    b
+}
+
+#[test]
+fn a_more_urgent_message_comes_before_the_woken_task_runs() {
+    let mut b = with_waiting_task();
+    let later = claim_and_send(&mut b, 0x21, 1);
+    assert_eq!(task(1).status(&b), Status(Status::MHBS | Status::TCBB));
+    let sooner = claim_prepared(&mut b, 0x11);
+    let answer = accept(&mut b, Call::SendAndWait { message: sooner, receiver: 1 });
+    assert_eq!(answer, (0, 1, sooner));
+    assert_eq!(queue(&b, 1), [later]);
+}
+
+#[test]
+fn cancelling_the_only_message_puts_the_task_back_to_waiting() {
+    let mut b = with_waiting_task();
+    let message = claim_and_send(&mut b, 0x15, 1);
+    accept(&mut b, Call::CancelMessage { message, receiver: 1 });
+    assert_eq!(task(1).status(&b), Status(Status::WAIT | Status::TCBB));
+}
+
+#[test]
+fn forward_keeps_the_receiver_for_a_later_resend() {
+    let mut b = with_tasks(&[0x33, 0x35]);
+    let message = claim_and_send(&mut b, 0x15, 1);
+    accept(&mut b, Call::Receive);
+    accept(&mut b, Call::ForwardAndWait { message, receiver: 2 });
+    assert_eq!(accept(&mut b, Call::Receive), (message, 2, 0));
+    assert_eq!(accept(&mut b, Call::Resend { message }), (0, 1, message));
+}
+
+#[test]
+fn the_lowest_refusal_is_given() {
+    let none_runs = EMPTY;
+    refuse(&none_runs, Call::Send { message: 0, receiver: 0 }, 3);
+    refuse(&none_runs, Call::CancelTask { task: 0 }, 3);
+    let mut b = with_tasks(&[0x33]);
+    let bad_install = |task, stat, prio| Call::Install { task, stat, prio, sptr: 0, name: 0 };
+    refuse(&b, bad_install(1, 0xFF, 0x34), 7);
+    refuse(&b, bad_install(1, 0xFF, 0x33), 8);
+    refuse(&b, bad_install(2, 0xFF, 0x33), 9);
+    refuse(&b, Call::Resend { message: 0 }, 4);
+    refuse(&b, Call::Prepare { message: 1, stat: 0, prio: 0, sptr: 33 }, 5);
+    let message = claim_prepared(&mut b, 0xFF);
+    refuse(&b, Call::Prepare { message, stat: 0, prio: 0, sptr: 33 }, 14);
+    refuse(&b, Call::Resend { message }, 6);
+    refuse(&b, Call::Return { message }, 6);
+    refuse(&b, Call::Forward { message, receiver: 2 }, 6);
+    refuse(&b, Call::Forward { message, receiver: 1 }, 7);
+    refuse(&b, Call::CancelTask { task: 1 }, 10);
+    refuse(&b, Call::CancelMessage { message, receiver: 2 }, 6);
+    refuse(&b, Call::CancelMessage { message, receiver: 1 }, 12);
+    accept(&mut b, Call::Prepare { message, stat: 0, prio: 1, sptr: 9 });
+    accept(&mut b, Call::Send { message, receiver: 1 });
+    refuse(&b, Call::CancelMessage { message, receiver: 1 }, 13);
+    b[1] = 1;
+    refuse(&b, Call::Send { message: 0, receiver: 0 }, 2);
+}
+
+#[test]
+fn each_rule_is_named_when_it_is_the_first_broken() {
+    let mut good = with_tasks(&[0x33, 0x35]);
+    let (first, second) = (claim_and_send(&mut good, 0x15, 1), claim_and_send(&mut good, 0x15, 2));
+    assert_eq!(broken_rule(&good), None);
+    let broken = |change: &dyn Fn(&mut Board)| {
+        let mut b = good;
+        change(&mut b);
+        broken_rule(&b)
+    };
+    let (k, m) = (task(1), message(first));
+    assert_eq!(broken(&|b| b[3] = 1), Some(Rule::R1));
+    assert_eq!(broken(&|b| b[k.prio_at()] = 0xFF), Some(Rule::R2));
+    assert_eq!(broken(&|b| b[0] = 2), Some(Rule::R3));
+    assert_eq!(broken(&|b| b[m.place_at()] = 64), Some(Rule::R4));
+    // Two queues share a tail: the second message is reached from both.
+    assert_eq!(broken(&|b| b[m.link_slot()] = second as u8), Some(Rule::R5));
+    assert_eq!(broken(&|b| b[k.at()] |= Status::WAIT), Some(Rule::R6));
+    assert_eq!(broken(&|b| b[k.at()] |= Status::MHBS), Some(Rule::R7));
+}
