@@ -1,12 +1,22 @@
-# make        prove every crate; what is proved already and has not changed is not proved again
-# make test   the gate: layout, every crate and must-fail edit from nothing, and our own tests
-.PHONY: all test
+# make         prove every crate, build the programs and show a sample board; what is proved already and has not changed is not proved again
+# make test    the gate: layout, every crate and must-fail edit from nothing, and our own tests
+# make soak    the compiled code against the model in plain Rust, on ever new cases until it is stopped or they differ
+# make bench   docs/BENCHMARKS.md anew, on standard output
+.PHONY: all test soak bench
 
 all:
 	@tests/need_kit
 	@rt check
 	@tests/compare_cases worked_boards
+	@tools/board show examples/boards/shore_station.board
 
 test:
 	@tests/need_kit
 	@tests/gate
+
+soak: all
+	@tests/model --for 0
+
+bench:
+	@tests/need_kit
+	@bench/run
