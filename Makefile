@@ -1,8 +1,9 @@
 # make         prove every crate, build the programs and show a sample board; what is proved already and has not changed is not proved again
 # make test    the gate: layout, every crate and must-fail edit from nothing, and our own tests
-# make soak    the compiled code against the model in plain Rust, on ever new cases until it is stopped or they differ
+# make soak    the compiled code against the model in plain Rust, on ever new cases for SECONDS, or until it is stopped or they differ
 # make bench   docs/BENCHMARKS.md anew, on standard output
 .PHONY: all test soak bench
+SECONDS = 0
 
 all:
 	@tests/need_kit
@@ -15,7 +16,7 @@ test:
 	@tests/gate
 
 soak: all
-	@tests/model --for 0
+	@tests/model --for $(SECONDS)
 
 bench:
 	@tests/need_kit

@@ -163,9 +163,14 @@ fn main() -> ExitCode {
     }
     println!("{tally} in {} s, all alike", start.elapsed().as_secs());
     let missing = tally.missing();
-    if !missing.is_empty() {
-        println!("not seen: {}", missing.join(", "));
-        return ExitCode::FAILURE;
+    if missing.is_empty() {
+        return ExitCode::SUCCESS;
     }
-    ExitCode::SUCCESS
+    println!("not seen: {}", missing.join(", "));
+    // a run for some seconds may be too short to see everything
+    if options.time.is_some() {
+        ExitCode::SUCCESS
+    } else {
+        ExitCode::FAILURE
+    }
 }
