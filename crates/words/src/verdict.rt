@@ -1,13 +1,24 @@
 // What the check says of a board, in one line of words.
 ghost use mathlib.Core.Path.{_≡_};
 ghost use lib.Dec.{ltb};
+ghost use Prim.Native.Nat.{_≤_};
+ghost use lib.ListN.{length};
 ghost use Rattle.board.specs.Numbers.{small};
+ghost use Rattle.board.specs.Board.{total, boardOf};
 ghost use Rattle.paper.specs.Step.{Outcome, check};
-ghost use Rattle.words.specs.Verdicts.{verdictOf};
+ghost use Rattle.words.specs.Verdicts.{verdictOf, brokenRule};
 use crate::print::decimal;
 use crate::print::text;
+use board::numbers::Size;
 use paper::answer::Answer;
 use paper::answer::Refusal;
+use rules::records::rule1;
+use rules::records::rule2;
+use rules::records::rule4;
+use rules::records::rule6;
+use rules::walks::rule3;
+use rules::walks::rule5;
+use rules::who::rule7;
 use station::check;
 use station::pack::refusal_number;
 
@@ -45,24 +56,64 @@ fn tell_length(n: usize) {
     }
 }
 
-// The check gives two refusals only.
-fn tell_reason(q: Refusal, n: usize) {
-    match q {
-        Refusal::WrongLength => {
-            tell_length(n);
-            text(b"; a board is 1,476\n");
-        }
-        _ => {
-            text(b"a rule of the board is broken\n");
-        }
+// The first rule that the board breaks, 0 for none.
+fn broken_rule(z: Size, b: &[u8]) -> u8
+    requires { ⌜ total z ≤ length (now b) ⌝ }
+    ensures { λ res. ⌜ res ≡ brokenRule z (boardOf z (now (b .entry))) ⌝ }
+{
+    if !rule1(b) {
+        return 1;
     }
+    if !rule2(z, b) {
+        return 2;
+    }
+    if !rule3(z, b) {
+        return 3;
+    }
+    if !rule4(z, b) {
+        return 4;
+    }
+    if !rule5(z, b) {
+        return 5;
+    }
+    if !rule6(z, b) {
+        return 6;
+    }
+    if !rule7(z, b) {
+        return 7;
+    }
+    0
 }
 
-fn tell_refusal(q: Refusal, n: usize) {
+fn tell_rule(rule: u8) {
+    match rule {
+        1 => text(b"R1, bytes 1 to 3 are not zero"),
+        2 => text(b"R2, the record of a task is neither zero nor good"),
+        3 => text(b"R3, the task queue does not list each task once and in order"),
+        4 => text(b"R4, the record of a message does not go with its place"),
+        5 => text(b"R5, a queue does not list each of its messages once and in order"),
+        6 => text(b"R6, the status of a task does not go with its queue"),
+        _ => text(b"R7, the running task is still due a message"),
+    }
+    ;
+}
+
+// The check gives two refusals only: a board of the right length breaks a rule.
+fn tell_reason(b: &[u8]) {
+    if b.len() != 1476 {
+        tell_length(b.len());
+        text(b"; a board is 1,476\n");
+        return;
+    }
+    tell_rule(broken_rule(Size::SMALL, b));
+    text(b"\n");
+}
+
+fn tell_refusal(q: Refusal, b: &[u8]) {
     text(b"refused (");
     decimal(refusal_number(q) as u64);
     text(b"): ");
-    tell_reason(q, n);
+    tell_reason(b);
 }
 
 // The board is checked; a refusal is told in its line.
@@ -77,7 +128,7 @@ pub fn judged(b: &[u8]) -> Verdict
             delivered: _,
         } => Verdict::Passes(running),
         Answer::Refused(q) => {
-            tell_refusal(q, b.len());
+            tell_refusal(q, b);
             Verdict::Refused
         }
     }
