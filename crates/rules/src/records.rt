@@ -150,11 +150,15 @@ fn good_held(z: Size, b: &[u8], r: Message, k: TaskNo) -> bool
     present_at(z, b, k)
 }
 
-// A queued message: RPTR and SPTR in range, PRIO odd and below FFH, its receiver present.
+// A queued message: RPTR and SPTR in range, PRIO odd and below FFH, its receiver present. The receiver is asked for first, so that its status
+// is on its way while the rest is tested.
 fn good_queued(z: Size, b: &[u8], r: Message, k: TaskNo) -> bool
     requires { ⌜ total z ≤ length (now b) ⌝ }
     ensures { λ res. ⌜ res ≡ goodMessage z (present (boardOf z (now (b .entry)))) r (QueuedAt k) ⌝ }
 {
+    if !present_at(z, b, k) {
+        return false;
+    }
     if !good_pointers(z, r) {
         return false;
     }
@@ -164,7 +168,7 @@ fn good_queued(z: Size, b: &[u8], r: Message, k: TaskNo) -> bool
     if 0xFF <= r.prio {
         return false;
     }
-    present_at(z, b, k)
+    true
 }
 
 fn good_message(z: Size, b: &[u8], r: Message, p: Place) -> bool
