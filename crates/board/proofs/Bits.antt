@@ -3,16 +3,16 @@
 -- Assumes nothing.
 use mathlib.Core.Path.{_≡_, refl, sym, ap, ap₂, _∙_}
 use mathlib.Core.Bool.{Bool, true, false, not}
-use Prim.Native.Nat.{ℕ, zero, suc, _+_, _-_, _*_, _/_, _%_, _^_, _<_}
-use native.Mathlib.Nat.{mod-lt, mod-eq-of-lt, zero-mul, one-mul, pow-suc}
+use Prim.Native.Nat.{ℕ, _-_, _/_, _%_, _<_}
+use native.Mathlib.Nat.{mod-lt}
 use native.Mathlib.Omega.{arith}
 use lib.Arith.{bin-ind}
-use lib.Bits.{bitAnd, bitOr, and-shr, and-mod, or-shr, or-mod, and-self, and-comm, and-zero-r, or-zero-r}
-use lib.Bits.{and-le-l, or-add-and, or-lt, and-mask, and-high}
+use lib.Bits.{bitAnd, bitOr, and-shr, and-mod, or-shr, or-mod, and-zero-r, or-zero-r}
+use lib.Bits.{and-le-l, or-lt}
 use lib.Dec.{eqb, lit<}
-use borrow.Author.Tests.{eq-eqb, ne-eqb, eqb-true, eqb-false, not-true, not-false}
+use borrow.Author.Tests.{eq-eqb, eqb-true}
 use Rattle.board.specs.declared.status.Status.{Status}
-use Rattle.board.specs.Status.{stored, has, withBit, withoutBit, number, fifo, withFifo}
+use Rattle.board.specs.Status.{has, withBit, withoutBit, number, fifo, withFifo}
 use Rattle.board.proofs.EveryByte.{below, below-at}
 
 -- ---- equations of three numbers that go digit by digit
@@ -75,14 +75,6 @@ and-assoc =
     (and-digits (and-digits first second) third) (and-digits first (and-digits second third)) (λ b c. refl) refl
 
 -- ---- a bit set
--- the bit reads set
-pub withBit-has : (s : Status) (bit : ℕ) → eqb bit 0 ≡ false → has (withBit s bit) bit ≡ true
-withBit-has s bit e =
-    let x : ℕ = bitAnd (s .0) bit in
-    let p : bitAnd (bitOr (s .0) bit) bit ≡ bitOr x bit = and-or (s .0) bit bit ∙ ap (bitOr x) (and-self bit) in
-    ap not (ne-eqb _ 0 (λ (z : bitAnd (bitOr (s .0) bit) bit ≡ 0).
-    let n : bit ≡ 0 = omega (arith, or-add-and x bit, and-le-l x bit) in eqb-false bit 0 e n))
-
 -- a bit apart stays
 pub withBit-other : (s : Status) (bit other : ℕ) → bitAnd bit other ≡ 0 → has (withBit s bit) other ≡ has s other
 withBit-other s bit other e =
@@ -91,20 +83,6 @@ withBit-other s bit other e =
 -- the status stays a byte
 pub withBit-small : (s : Status) (bit : ℕ) → s .0 < 256 → bit < 256 → withBit s bit .0 < 256
 withBit-small s bit h k = or-lt 8 (s .0) bit h k
-
-whole-or-none : (x d bit : ℕ) → x ≡ d * bit → d < 2 → (x ≡ 0 → ⊥) → x ≡ bit
-whole-or-none x zero bit e h n = absurd (n (e ∙ zero-mul bit))
-whole-or-none x (suc zero) bit e h n = e ∙ one-mul bit
-whole-or-none x (suc (suc d)) bit e h n = absurd (omega arith)
-
--- setting a bit that is set changes nothing
-pub withBit-again : (s : Status) (bit k : ℕ) → bit ≡ 2 ^ k → has s bit ≡ true → withBit s bit ≡ s
-withBit-again s bit k e h =
-    let n : 1 + k ≡ suc k = omega arith in
-    let w : 2 ^ (1 + k) - 2 ^ k ≡ 2 ^ k = rw n (omega (arith, pow-suc 2 k)) in
-    let d : bitAnd (s .0) bit ≡ s .0 / 2 ^ k % 2 * bit = rw e (ap (bitAnd (s .0)) (sym w) ∙ and-high (s .0) 1 k) in
-    let p : bitAnd (s .0) bit ≡ bit = whole-or-none _ _ bit d (digit (s .0 / 2 ^ k)) (eqb-false _ 0 (not-true _ h)) in
-    ap stored (let r : bitOr (s .0) bit ≡ s .0 = omega (arith, or-add-and (s .0) bit) in r)
 
 -- ---- a bit cleared
 -- the bit reads clear
@@ -121,16 +99,6 @@ withoutBit-other s bit other e =
 -- the status stays a byte
 pub withoutBit-small : (s : Status) (bit : ℕ) → s .0 < 256 → withoutBit s bit .0 < 256
 withoutBit-small s bit h = omega (arith, and-le-l (s .0) (255 - bit))
-
--- clearing a bit that is clear changes nothing
-pub withoutBit-again : (s : Status) (bit : ℕ) → s .0 < 256 → bitOr (255 - bit) bit ≡ 255 → has s bit ≡ false
-    → withoutBit s bit ≡ s
-withoutBit-again s bit h e c =
-    let z : bitAnd bit (s .0) ≡ 0 = and-comm bit (s .0) ∙ eqb-true _ 0 (not-false _ c) in
-    ap stored (
-    and-comm (s .0) (255 - bit) ∙ sym (or-zero-r (bitAnd (255 - bit) (s .0))) ∙ ap (bitOr (bitAnd (255 - bit) (s .0))) (sym z)
-    ∙ sym (and-or (255 - bit) bit (s .0)) ∙ ap (λ (x : ℕ). bitAnd x (s .0)) e ∙ and-comm 255 (s .0) ∙ and-mask (s .0) 8
-    ∙ mod-eq-of-lt h)
 
 -- ---- PRIO
 -- with bit 0 set the number is the same

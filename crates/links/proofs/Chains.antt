@@ -2,12 +2,12 @@
 -- Assumes nothing.
 use mathlib.Core.Path.{_≡_, refl, sym, ap, ap₂, _∙_, subst}
 use mathlib.Core.Logic.{inl, inr}
-use mathlib.Core.Bool.{true, false}
+use mathlib.Core.Bool.{true}
 use mathlib.Core.List.{List, [], _∷_, _++_}
 use Prim.Native.Nat.{ℕ, zero, suc, _-_, _≤_, _<_}
 use native.Mathlib.Omega.{arith}
 use lib.ListN.{length, length-append}
-use borrow.Author.Tests.{eqb-true, ne-eqb}
+use borrow.Author.Tests.{eqb-true}
 use Rattle.links.specs.Queue.{walk, ends, firstOf}
 use Rattle.links.specs.Chain.{In, Out, Once, Chain}
 use Rattle.links.proofs.Members.{not-in-out, in-split}
@@ -42,17 +42,6 @@ pub chain-meet : (next : ℕ → ℕ) (x y m : ℕ) (a b c d : List ℕ) → Cha
 chain-meet next x y m a b c d h g =
     chain-one next (next m) b d (chain-from next x a (m ∷ b) h .2) (chain-from next y c (m ∷ d) g .2)
 
--- two with a common member have the same tail from there
-pub chains-share-tail : (next : ℕ → ℕ) (x y m : ℕ) (q r : List ℕ) → Chain next x q → Chain next y r → In m q → In m r
-    → (a : List ℕ) × (c : List ℕ) × (b : List ℕ) × (q ≡ a ++ m ∷ b) × (r ≡ c ++ m ∷ b)
-chains-share-tail next x y m q r h g i j =
-    let s = in-split m q i in
-    let t = in-split m r j in
-    let u : Chain next x (s .front ++ m ∷ s .back) = rw (s .whole) at h in
-    let v : Chain next y (t .front ++ m ∷ t .back) = rw (t .whole) at g in
-    let e = chain-meet next x y m (s .front) (s .back) (t .front) (t .back) u v in
-    (s .front, t .front, s .back, s .whole, t .whole ∙ ap (λ (l : List ℕ). t .front ++ m ∷ l) (sym e))
-
 -- one that ends has no repeats
 pub chain-once : (next : ℕ → ℕ) (x : ℕ) (q : List ℕ) → Chain next x q → Once q
 chain-once next x [] c = tt
@@ -70,11 +59,6 @@ pub chain-frame : (f g : ℕ → ℕ) (x : ℕ) (q : List ℕ) → ((y : ℕ) �
 chain-frame f g x [] h c = c
 chain-frame f g x (y ∷ q) h c = (c .0, c .1, rw (h y (inl refl)) (chain-frame f g (f y) q (λ z i. h z (inr i)) (c .2)))
 
--- links changed at the members of q alone leave r, which has none of them
-pub chain-apart : (f g : ℕ → ℕ) (x : ℕ) (q r : List ℕ) → ((y : ℕ) → In y r → Out y q) → ((y : ℕ) → Out y q → g y ≡ f y)
-    → Chain f x r → Chain g x r
-chain-apart f g x q r h e c = chain-frame f g x r (λ y i. e y (h y i)) c
-
 -- ---- a turn of the walk, where fuel and number are no `suc`
 -- one more is visited
 pub walk-step : (next : ℕ → ℕ) (n x : ℕ) → 0 < n → 0 < x → walk next n x ≡ x ∷ walk next (n - 1) (next x)
@@ -87,20 +71,10 @@ pub walk-end : (next : ℕ → ℕ) (n x : ℕ) → x ≡ 0 → walk next n x �
 walk-end next zero x e = refl
 walk-end next (suc n) x e = rw e
 
--- whether the walk ends is seen behind the one visited
-pub ends-step : (next : ℕ → ℕ) (n x : ℕ) → 0 < n → 0 < x → ends next n x ≡ ends next (n - 1) (next x)
-ends-step next zero x h g = absurd (omega arith)
-ends-step next (suc n) zero h g = absurd (omega arith)
-ends-step next (suc n) (suc x) h g = let e : n ≡ suc n - 1 = omega arith in ap (λ (k : ℕ). ends next k (next (suc x))) e
-
 -- at 0 the walk ends
 pub ends-end : (next : ℕ → ℕ) (n x : ℕ) → x ≡ 0 → ends next n x ≡ true
 ends-end next zero x e = rw e
 ends-end next (suc n) x e = rw e
-
--- not at 0, with the fuel out, it gives up
-pub ends-out : (next : ℕ → ℕ) (n x : ℕ) → 0 < x → n ≡ 0 → ends next n x ≡ false
-ends-out next n x h e = rw e (ne-eqb x 0 (λ z. omega arith))
 
 -- ---- the walk is the chain
 -- a walk visits no more than its fuel

@@ -11,11 +11,10 @@ use native.Mathlib.Decide.{ℕ-discrete}
 use lib.Dec.{eqb}
 use lib.ListN.{length, getD}
 use borrow.Author.Tests.{eq-eqb, ne-eqb}
-use Rattle.links.specs.Queue.{isIn, insert, without, consIf, which, rearranged}
+use Rattle.links.specs.Queue.{isIn, without, consIf, which, rearranged}
 use Rattle.links.specs.Chain.{In, Out, Once, All}
 use Rattle.links.proofs.Bools.{both, and-true}
 use Rattle.links.proofs.Members.{out-not-in, not-in-out, in-dec, isIn-in, in-isIn, all-at, all-of}
-use Rattle.links.proofs.Insertion.{insert-cases}
 use Rattle.links.proofs.Removal.{without-cases, in-without-other, length-without}
 
 -- ---- how often one stands in a list
@@ -33,10 +32,6 @@ times y (x ∷ q) = one (eqb x y) + times y q
 times-middle : (y m : ℕ) (a b : List ℕ) → times y (a ++ m ∷ b) ≡ one (eqb m y) + times y (a ++ b)
 times-middle y m [] b = refl
 times-middle y m (x ∷ a) b = omega (arith, times-middle y m a b)
-
--- once more, where it is put in
-pub times-insert : (goes : ℕ → Bool) (m y : ℕ) (q : List ℕ) → times y (insert goes m q) ≡ one (eqb m y) + times y q
-times-insert goes m y q = insert-cases (λ l r. times y r ≡ one (eqb m y) + times y l) goes m q (times-middle y m)
 
 -- once less, where it is taken out
 pub times-without : (m y : ℕ) (q : List ℕ) → In m q → times y q ≡ one (eqb m y) + times y (without m q)
@@ -120,10 +115,6 @@ rearranged-length [] (x ∷ l) h = absurd (true≢false (sym h))
 rearranged-length (x ∷ q) l h =
     let r = rearranged-first x q l h in
     omega (arith, rearranged-length q (without x l) (r .1), length-without x l (r .0))
-
--- where l has no repeats q has none
-pub rearranged-once : (q l : List ℕ) → rearranged q l ≡ true → Once l → Once q
-rearranged-once q l h d = times-once q (λ y. omega (arith, rearranged-times q l h y, once-times l d y))
 
 -- ---- when it holds
 -- of two lists with no repeats and the same members

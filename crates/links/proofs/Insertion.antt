@@ -4,10 +4,9 @@ use mathlib.Core.Path.{_≡_, refl, sym, ap, _∙_, subst}
 use mathlib.Core.Logic.{_≢_, inl, inr, _↔_}
 use mathlib.Core.Bool.{Bool, true, false}
 use mathlib.Core.List.{List, [], _∷_, _++_}
-use Prim.Native.Nat.{ℕ, suc, _≤_}
+use Prim.Native.Nat.{ℕ, _≤_}
 use native.Mathlib.Omega.{arith}
 use lib.Dec.{leb}
-use lib.ListN.{length, length-append}
 use borrow.Author.Tests.{leb-true, leb-false, ltb-true, ltb-false, le-leb}
 use Rattle.links.specs.Queue.{firstOf, goesBefore, insert, rising}
 use Rattle.links.specs.Chain.{In, Out, Once, All, Sorted}
@@ -85,11 +84,6 @@ all-insert P goes m q g h = all-of P (insert goes m q) (λ y i. all-at P (m ∷ 
 pub once-insert : (goes : ℕ → Bool) (m : ℕ) (q : List ℕ) → Out m q → Once q → Once (insert goes m q)
 once-insert goes m q = insert-cases (λ l r. Out m l → Once l → Once r) goes m q (once-insert-middle m)
 
--- there is one more
-pub length-insert : (goes : ℕ → Bool) (m : ℕ) (q : List ℕ) → length (insert goes m q) ≡ suc (length q)
-length-insert goes m q = insert-cases (λ l r. length r ≡ suc (length l)) goes m q
-    (λ a b. omega (arith, length-append a b, length-append a (m ∷ b)))
-
 -- ---- first, or behind another
 -- the last is a member
 last-in : (x : ℕ) (q : List ℕ) → In (lastOr x q) (x ∷ q)
@@ -164,12 +158,3 @@ sorted-rising number low [] h s = refl
 sorted-rising number low (x ∷ q) h s =
     and-true (leb low (number x)) (rising number (number x) q) (le-leb low (number x) (h .0))
     (sorted-rising number (number x) q (s .0) (s .1))
-
--- the test passes with the new one in
-pub rising-insert : (number : ℕ → ℕ) (f : Bool) (p m low : ℕ) (q : List ℕ) → number m ≡ p → low ≤ p → rising number low q ≡ true
-    → rising number low (insert (λ x. goesBefore f p (number x)) m q) ≡ true
-rising-insert number f p m low q d h r =
-    let s = rising-sorted number low q r in
-    sorted-rising number low (insert (λ x. goesBefore f p (number x)) m q)
-    (all-insert (λ y. low ≤ number y) (λ x. goesBefore f p (number x)) m q (omega arith) (s .0))
-    (sorted-insert number f p m q d (s .1))

@@ -10,7 +10,7 @@ use lib.Dec.{eqb}
 use Rattle.links.specs.Queue.{firstOf, restOf, insert, without, relink}
 use Rattle.links.specs.Chain.{In, Out, Once, All, Chain}
 use Rattle.links.proofs.Members.{out-not-in, once-insert-middle, once-remove-middle}
-use Rattle.links.proofs.Chains.{chain-first, chain-out-zero, chain-from, chain-once, chain-frame, chain-apart}
+use Rattle.links.proofs.Chains.{chain-first, chain-out-zero, chain-from, chain-once, chain-frame}
 use Rattle.links.proofs.Insertion.{before, after, last0, before-after, insert-split, insert-first}
 use Rattle.links.proofs.Removal.{without-found, chain-without-first}
 
@@ -95,16 +95,6 @@ module _ {B : Type 0} (next : B → ℕ → ℕ) (link : B → ℕ → ℕ → B
     (kept : (b : B) (x v y : ℕ) → fits b y → fits (link b x v) y)
     (got : (b : B) (x v : ℕ) → fits b x → next (link b x v) x ≡ v)
     (other : (b : B) (x v y : ℕ) → y ≢ x → next (link b x v) y ≡ next b y) (b : B) where
-  -- numbers that are none of q keep their links
-  pub relink-other : (y : ℕ) (q : List ℕ) → Out y q → next (relink link b q) y ≡ next b y
-  relink-other y [] o = refl
-  relink-other y (x ∷ q) o = other (relink link b q) x (firstOf q) y (o .0) ∙ relink-other y q (o .1)
-
-  -- so a queue with no member in q stays
-  pub relink-apart : (x : ℕ) (q r : List ℕ) → ((y : ℕ) → In y r → Out y q) → Chain (next b) x r
-      → Chain (next (relink link b q)) x r
-  relink-apart x q r h c = chain-apart (next b) (next (relink link b q)) x q r h (λ y o. relink-other y q o) c
-
   -- what fits still does
   relink-fits : (y : ℕ) (q : List ℕ) → fits b y → fits (relink link b q) y
   relink-fits y [] h = h

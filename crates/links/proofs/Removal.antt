@@ -9,13 +9,12 @@ use native.Mathlib.Omega.{arith}
 use lib.Dec.{eqb}
 use lib.ListN.{length, length-append}
 use borrow.Author.Tests.{eqb-true, eqb-false, eq-eqb, ne-eqb}
-use Rattle.links.specs.Queue.{firstOf, restOf, insert, without, rising}
+use Rattle.links.specs.Queue.{firstOf, restOf, without}
 use Rattle.links.specs.Chain.{In, Out, Once, All, Sorted, Chain}
-use Rattle.links.proofs.Members.{out-not-in, in-dec, out-left, in-split, in-middle, in-but, all-at, all-of}
+use Rattle.links.proofs.Members.{out-not-in, in-dec, in-split, in-middle, in-but, all-at, all-of}
 use Rattle.links.proofs.Members.{once-remove-middle, once-middle-out}
 use Rattle.links.proofs.Chains.{chain-first, chain-out-zero, chain-from}
-use Rattle.links.proofs.Insertion.{before, after, last0, before-after, before-none, insert-cases}
-use Rattle.links.proofs.Insertion.{rising-sorted, sorted-rising}
+use Rattle.links.proofs.Insertion.{before, after, last0, before-after, before-none}
 
 -- ---- what is left
 -- the first m goes
@@ -40,11 +39,6 @@ without-cases P m q h g = step (in-dec m q)
         subst (λ (l : List ℕ). P l (without m l)) (sym (r .whole))
         (rw (without-split m (r .front) (r .back) (r .fresh)) (g (r .front) (r .back) (r .fresh)))
     step (inr o) = rw (without-out m q o) (h o)
-
--- one that was put in and is taken out again leaves the queue
-pub without-insert : (goes : ℕ → Bool) (m : ℕ) (q : List ℕ) → Out m q → without m (insert goes m q) ≡ q
-without-insert goes m q =
-    insert-cases (λ l r. Out m l → without m r ≡ l) goes m q (λ a b o. without-split m a b (out-left m a b o))
 
 -- ---- its members
 -- what is left was there
@@ -136,26 +130,10 @@ first-without-behind m (x ∷ q) h = step (eqb x m) refl
     step false e = rw (e, without)
 
 -- ---- behind the first
--- it has no repeats
-pub once-rest : (q : List ℕ) → Once q → Once (restOf q)
-once-rest [] d = tt
-once-rest (x ∷ q) d = d .1
-
 -- what held of each holds of these
 pub all-rest : (P : ℕ → Type 0) (q : List ℕ) → All P q → All P (restOf q)
 all-rest P [] h = tt
 all-rest P (x ∷ q) h = h .1
-
--- sorted stays sorted
-pub sorted-rest : (number : ℕ → ℕ) (q : List ℕ) → Sorted number q → Sorted number (restOf q)
-sorted-rest number [] h = tt
-sorted-rest number (x ∷ q) h = h .1
-
--- the test of it still passes
-pub rising-rest : (number : ℕ → ℕ) (low : ℕ) (q : List ℕ) → rising number low q ≡ true → rising number low (restOf q) ≡ true
-rising-rest number low q e =
-    let s = rising-sorted number low q e in
-    sorted-rising number low (restOf q) (all-rest (λ y. low ≤ number y) q (s .0)) (sorted-rest number q (s .1))
 
 -- it is a chain of its own
 pub chain-rest : (next : ℕ → ℕ) (x : ℕ) (q : List ℕ) → Chain next x q → Chain next (firstOf (restOf q)) (restOf q)

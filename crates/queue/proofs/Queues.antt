@@ -12,7 +12,6 @@ use Rattle.links.specs.Queue.{firstOf, restOf, goesBefore, without}
 use Rattle.links.specs.Chain.{In, Out, Chain}
 use Rattle.links.specs.Seek.{Spot, seek}
 use Rattle.links.proofs.Chains.{chain-first, walk-length}
-use Rattle.links.proofs.Removal.{without-split}
 use Rattle.links.proofs.Seeking.{seek-is}
 use Rattle.board.specs.declared.numbers.Size.{Size}
 use Rattle.board.specs.Status.{number, fifo}
@@ -62,11 +61,6 @@ board-behind z l e r prev x = go (eqb prev 0)
 first-in : (q : List ℕ) → firstOf q ≢ 0 → In (firstOf q) q
 first-in [] h = absurd (h refl)
 first-in (x ∷ q) h = inl refl
-
--- without its first a queue is the rest
-without-firstOf : (q : List ℕ) → without (firstOf q) q ≡ restOf q
-without-firstOf [] = refl
-without-firstOf (x ∷ q) = without-split x [] q tt
 
 module _ (z : Size) (l : List ℕ) (e : length l ≡ total z) (fuel : z .tasks ≤ z .messages) {order : List ℕ} {queues : ℕ → List ℕ}
     (h : Linked z (boardOf z l) order queues) (r : ℕ) (n : Numbered (z .tasks) r) where
