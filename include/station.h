@@ -1,8 +1,8 @@
 /* The station's board: tasks, message blocks and queues in 1,476 bytes that the caller lends. For C11 and C++.
  *
- * Link with target/staticlib/libstation.a, which `rt staticlib station` writes. No function keeps anything between calls,
- * allocates, or touches a byte outside the lent ones. Any bytes and any arguments are safe to hand over: what cannot be done is
- * refused with a number and changes nothing. One writer at a time is the caller's business.
+ * Link with target/staticlib/libstation.a, which `rt staticlib station` writes; of the C library it needs memset alone. No
+ * function keeps anything between calls, allocates, or touches a byte outside the lent ones. Any bytes and any arguments are safe
+ * to hand over: what cannot be done is refused with a number and changes nothing. One writer at a time is the caller's business.
  *
  * Tasks are numbered 1 to 32 and messages 1 to 128; 0 is none. Names in capitals (STAT, PRIO, RPTR ..) are the fields of the
  * MITE-80 manual, 3.2 and 3.3; examples/c/shore_station.c is a small program with them. */

@@ -4,7 +4,7 @@
 --   putTask z l k t    .. with task k so; putMessage, putPlace and putFirst likewise
 -- Assumes nothing.
 use mathlib.Core.Bool.{cond}
-use mathlib.Core.List.{List, [], _∷_}
+use mathlib.Core.List.{List}
 use Prim.Native.Nat.{ℕ, _+_, _-_, _*_}
 use lib.ListN.{set}
 use lib.Seq.{sets}

@@ -1,14 +1,14 @@
 -- A placing call as a step, with the wait and without it, and the wait itself. Assumes nothing.
 use mathlib.Core.Path.{_≡_, refl, sym, ap, ap₂, _∙_}
 use mathlib.Core.Bool.{Bool, cond}
-use mathlib.Core.List.{List, [], _∷_}
+use mathlib.Core.List.{List, []}
 use Prim.Native.Nat.{ℕ}
 use borrow.Author.Tests.{eq-eqb, ne-eqb}
 use Rattle.board.specs.declared.numbers.Size.{Size}
 use Rattle.board.specs.declared.numbers.TaskNo.{TaskNo}
 use Rattle.board.specs.declared.numbers.TaskMeant.the-variants.{Task, NoTask}
 use Rattle.board.specs.declared.records.Task as records
-use Rattle.board.specs.Numbers.{taskNo, taskMeant}
+use Rattle.board.specs.Numbers.{taskMeant}
 use Rattle.board.specs.Status.{WAIT, MHBS}
 use Rattle.board.specs.Board.{boardOf, task}
 use Rattle.paper.specs.declared.call.Call.{Call}

@@ -2,12 +2,11 @@
 -- Assumes nothing.
 use mathlib.Core.Path.{_≡_, refl, sym, ap, _∙_, subst}
 use mathlib.Core.Logic.{_≢_}
-use mathlib.Core.Bool.{Bool, true, false, not, true≢false}
-use mathlib.Core.List.{List, [], _∷_}
+use mathlib.Core.Bool.{Bool, true, false}
+use mathlib.Core.List.{List, _∷_}
 use Prim.Native.Nat.{ℕ}
 use native.Mathlib.Omega.{arith}
-use lib.ListN.{length}
-use lib.Dec.{eqb, lit<, lit≤}
+use lib.Dec.{lit<, lit≤}
 use borrow.Author.Tests.{not-false}
 use Rattle.links.specs.Queue.{firstWith}
 use Rattle.board.specs.declared.numbers.Size.{Size}
@@ -16,7 +15,6 @@ use Rattle.board.specs.declared.records.Task.{Task}
 use Rattle.board.specs.Numbers.{small}
 use Rattle.board.specs.Status.{MHBS, has}
 use Rattle.board.specs.Board.{Board, boardOf, bytesOf, task}
-use Rattle.board.proofs.Codec.{length-tasks, length-places}
 use Rattle.paper.specs.declared.call.Call.{Call}
 use Rattle.paper.specs.declared.call.Call.the-variants.{Install, PostInterrupt, Find, CancelTask, Claim, Prepare, Release, Send, SendAndWait, Resend, ResendAndWait, Forward, ForwardAndWait, Return, ReturnAndWait, Receive, ReceiveAndWait, CancelMessage, WaitForInterrupt}
 use Rattle.paper.specs.declared.answer.Refusal.{Refusal}
@@ -26,7 +24,7 @@ use Rattle.paper.specs.declared.answer.Answer.the-variants.{Accepted, Refused}
 use Rattle.paper.specs.Answers.{numberOf, handed}
 use Rattle.paper.specs.Rules.{ready, order, running, passes}
 use Rattle.paper.specs.Refusals.{Test, no1, no2, own, row, Verdict, Go, Stop, lowest}
-use Rattle.paper.specs.Step.{Outcome, Done, judge, body, dispatch, accepted, refused, effect}
+use Rattle.paper.specs.Step.{Outcome, Done, judge, body, dispatch, accepted}
 use Rattle.paper.proofs.Theorems.{row-below}
 use Rattle.linked.specs.Linked.{Linked}
 use Rattle.linked.specs.Sound.{Sound}

@@ -4,7 +4,7 @@
 --   orderAfter, queuesAfter   the lists after the body of a call, from the lists before it
 -- Assumes nothing.
 use mathlib.Core.Bool.{Bool, true, cond}
-use mathlib.Core.List.{List, []}
+use mathlib.Core.List.{List}
 use Prim.Native.Nat.{ℕ}
 use lib.Dec.{eqb}
 use Rattle.links.specs.Queue.{goesBefore, insert, without, restOf}

@@ -12,7 +12,6 @@ use lib.Dec.{eqb}
 use borrow.Author.Tests.{eq-eqb, ne-eqb, lt-ltb, le-ltb}
 use denote.Enum.Declared.{tagOf}
 use types.Run.{OneOf}
-use Rattle.links.specs.Queue.{which}
 use Rattle.board.specs.declared.numbers.Size.{Size}
 use Rattle.board.specs.declared.numbers.TaskNo.{TaskNo}
 use Rattle.board.specs.declared.numbers.MsgNo.{MsgNo}
@@ -26,7 +25,7 @@ use Rattle.board.specs.declared.places.Place.the-variants.{Free, HeldBy, Queued
 use Rattle.board.specs.Numbers.{taskNo, taskMeant, messageMeant}
 use Rattle.board.specs.Records.{noMessage, withStat, withPrio, withSptr}
 use Rattle.board.specs.Places.{isFree}
-use Rattle.board.specs.Board.{Board, boardOf, message, place}
+use Rattle.board.specs.Board.{Board, boardOf, message}
 use Rattle.board.specs.Writes.{putMessage, putPlace}
 use Rattle.board.proofs.places.Place.{the-type}
 use Rattle.board.proofs.Pieces.{outside-within, within-outside}

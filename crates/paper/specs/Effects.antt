@@ -1,7 +1,7 @@
 -- Document 01, 'The nineteen calls': what each does to the board, in the paper's order. A reader must believe this file.
 -- c is the running task. Each effect is made of the changes of Changes, so every other byte stays.
 -- Assumes nothing.
-use mathlib.Core.Bool.{Bool, true, false, cond, _&&_}
+use mathlib.Core.Bool.{Bool, true, cond, _&&_}
 use mathlib.Core.List.{List}
 use Prim.Native.Nat.{ℕ, _+_, _*_, _%_}
 use lib.Dec.{eqb}

@@ -4,7 +4,7 @@
 --   row z l b c call    the refusals of that call, ascending, on the bytes l that are the board b, with c running
 --   lowest tests        the lowest that applies, or that the call may go on
 -- Assumes nothing.
-use mathlib.Core.Bool.{Bool, true, false, not, _&&_, _||_}
+use mathlib.Core.Bool.{Bool, true, false, not, _||_}
 use mathlib.Core.List.{List, [], _∷_}
 use Prim.Native.Nat.{ℕ}
 use lib.ListN.{length}

@@ -6,9 +6,9 @@
 --   Ends a l o          a contract's one clause: the answer a and the bytes l are those of the outcome o
 -- Assumes nothing.
 use mathlib.Core.Path.{_≡_}
-use mathlib.Core.Bool.{Bool, true, false, cond}
+use mathlib.Core.Bool.{Bool, cond}
 use mathlib.Core.List.{List, [], _∷_}
-use Prim.Native.Nat.{ℕ, zero, suc}
+use Prim.Native.Nat.{ℕ}
 use lib.ListN.{replicate}
 use Rattle.links.specs.Queue.{firstOf}
 use Rattle.board.specs.declared.numbers.Size.{Size}

@@ -1,7 +1,7 @@
 -- What fresh and check answer, by the tests that code makes. Assumes nothing.
 use mathlib.Core.Path.{_≡_, sym, ap, _∙_}
 use mathlib.Core.Logic.{_⊎_, inl, inr}
-use mathlib.Core.Bool.{Bool, true, false, not, _&&_, cond, true≢false}
+use mathlib.Core.Bool.{Bool, true, false, not, _&&_, cond}
 use mathlib.Core.List.{List, [], _∷_}
 use Prim.Native.Nat.{ℕ, _+_, _≤_, _<_}
 use native.Mathlib.Omega.{arith}
@@ -19,9 +19,9 @@ use Rattle.board.proofs.Codec.{length-tasks}
 use Rattle.paper.specs.declared.answer.Answer.{Answer}
 use Rattle.paper.specs.declared.answer.Answer.the-variants.{Accepted, Refused}
 use Rattle.paper.specs.declared.answer.Refusal.the-variants.{WrongLength, RuleBroken}
-use Rattle.paper.specs.Rules.{present, running, passes}
+use Rattle.paper.specs.Rules.{running, passes}
 use Rattle.paper.specs.Refusals.{test, lowest}
-use Rattle.paper.specs.Step.{Outcome, Ends, accepted, refused, judge, blank, fresh, check}
+use Rattle.paper.specs.Step.{Outcome, Ends, accepted, judge, blank, fresh, check}
 use Rattle.kept.proofs.Reading.{present-numbered, runner-says}
 use Rattle.station.specs.Meant.{numberMeant}
 

@@ -1,5 +1,5 @@
 -- What a call answers and leaves, by the tests that code makes: 1, 2, or what the call made of a board that passes. Assumes nothing.
-use mathlib.Core.Path.{_≡_, refl, sym, ap, _∙_, subst}
+use mathlib.Core.Path.{_≡_, ap, _∙_, subst}
 use mathlib.Core.Bool.{true, false, not}
 use mathlib.Core.List.{List, _∷_}
 use Prim.Native.Nat.{ℕ, _<_}
@@ -14,7 +14,7 @@ use Rattle.paper.specs.declared.answer.Answer.{Answer}
 use Rattle.paper.specs.declared.answer.Answer.the-variants.{Refused}
 use Rattle.paper.specs.declared.answer.Refusal.the-variants.{WrongLength, RuleBroken}
 use Rattle.paper.specs.Rules.{running, passes}
-use Rattle.paper.specs.Refusals.{no1, no2, own, row, Verdict, Stop, lowest}
+use Rattle.paper.specs.Refusals.{no1, no2, own, Verdict, Stop}
 use Rattle.paper.specs.Step.{Outcome, Ends, judge, body, dispatch, effect}
 use Rattle.kept.specs.Stands.{Fitting}
 use Rattle.kept.specs.Claims.{Bytes}

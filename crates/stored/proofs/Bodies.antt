@@ -1,17 +1,14 @@
 -- The stores of each call's body come to its effect, on a board that stands and where no refusal of its row applies. Assumes nothing.
-use mathlib.Core.Path.{_≡_, refl, sym, ap, _∙_, subst}
+use mathlib.Core.Path.{_≡_, sym, _∙_, subst}
 use mathlib.Core.Logic.{_≢_, inl}
-use mathlib.Core.Bool.{Bool, true, false, cond, not, _&&_, true≢false}
+use mathlib.Core.Bool.{Bool, true, false, cond, _&&_}
 use mathlib.Core.List.{List, [], _∷_}
-use Prim.Native.Nat.{ℕ, _≤_, _<_}
+use Prim.Native.Nat.{ℕ}
 use native.Mathlib.Omega.{arith}
 use native.Mathlib.Decide.{ℕ-discrete}
 use lib.ListN.{length}
-use lib.Dec.{eqb}
-use borrow.Author.Tests.{eqb-true, not-false}
-use Rattle.links.specs.Queue.{firstOf, restOf, without}
+use Rattle.links.specs.Queue.{firstOf, restOf}
 use Rattle.links.specs.Chain.{In, Out}
-use Rattle.links.proofs.Members.{not-in-out}
 use Rattle.board.specs.declared.numbers.Size.{Size}
 use Rattle.board.specs.declared.status.Status.{Status}
 use Rattle.board.specs.declared.records.Task.{Task}
@@ -19,24 +16,23 @@ use Rattle.board.specs.declared.records.Message.{Message}
 use Rattle.board.specs.declared.places.Place.the-variants.{Free, HeldBy, QueuedAt}
 use Rattle.board.specs.Numbers.{outside, taskNo}
 use Rattle.board.specs.Status.{WAIT, IWAT, INTQ, MHBS, has, withFifo}
-use Rattle.board.specs.Records.{noTask, noMessage, withPrio}
-use Rattle.board.specs.Board.{Board, total, boardOf, task, message, place, withMessage, withPlace, withTask}
-use Rattle.board.specs.Writes.{putMessage, putPlace}
+use Rattle.board.specs.Records.{withPrio}
+use Rattle.board.specs.Board.{Board, total, boardOf, task, message, withMessage, withPlace}
+use Rattle.board.specs.Writes.{putPlace}
 use Rattle.board.proofs.Pieces.{within-outside, outside-zero}
-use Rattle.paper.specs.Rules.{present, nextMessage, queue, order, emptyQueue, running}
-use Rattle.paper.specs.Changes.{sets, clears, hold, withQueue, withOrder, takeFirst}
-use Rattle.paper.specs.Effects.{queueWith, woken, placeAt, addressed, emptied, post, waitInterrupt, waits}
+use Rattle.paper.specs.Rules.{present, nextMessage, queue, order, emptyQueue}
+use Rattle.paper.specs.Changes.{sets, clears, hold, withQueue, takeFirst}
+use Rattle.paper.specs.Effects.{queueWith, woken, placeAt, emptied, post, waitInterrupt, waits}
 use Rattle.linked.specs.Linked.{Linked, Numbered}
 use Rattle.kept.specs.Claims.{Sizes}
 use Rattle.kept.specs.Stands.{Stands}
 use Rattle.kept.proofs.Reading.{placed-numbered, queued-placed, queue-walked}
-use Rattle.kept.proofs.Holding.{isQueued, unqueued-out}
 use Rattle.kept.proofs.Waiting.{task-numbered}
 use Rattle.kept.proofs.Taking.{take-none}
 use Rattle.queue.specs.Moves.{setsIn, clearsIn, queueInto, mptrIn, holdIn}
 use Rattle.queue.proofs.Effects.{length-mptr}
-use Rattle.queue.proofs.Queues.{length-queue-into, length-queue-out, queue-first, queue-into, queue-out, queue-next}
-use Rattle.inner.specs.Stores.{wokenIn, markedIn, placeAtIn, addressedIn, sendIn, takeIn, emptiedIn, postIn, waitInterruptIn, waitsIn}
+use Rattle.queue.proofs.Queues.{length-queue-into, queue-first, queue-into, queue-next}
+use Rattle.inner.specs.Stores.{wokenIn, markedIn, placeAtIn, takeIn, emptiedIn, postIn, waitInterruptIn, waitsIn}
 use Rattle.stored.proofs.Comes.{Comes, and-then, comes-cond, comes-same, comes-sets, comes-clears, comes-message, comes-queued, comes-hold}
 
 -- ---- flags

@@ -1,14 +1,11 @@
 -- The whole call as code makes it is document 01's effect, on a board that passes. Assumes nothing.
 use mathlib.Core.Path.{_≡_, refl, sym, ap, _∙_, subst}
 use mathlib.Core.Logic.{_≢_}
-use mathlib.Core.Bool.{Bool, true, false, cond, not, true≢false}
+use mathlib.Core.Bool.{Bool, true, cond, true≢false}
 use mathlib.Core.List.{List, [], _∷_}
-use Prim.Native.Nat.{ℕ, _≤_, _<_}
-use native.Mathlib.Omega.{arith}
-use lib.ListN.{length, getD}
+use Prim.Native.Nat.{ℕ}
+use lib.ListN.{length}
 use lib.Dec.{eqb}
-use borrow.Author.Tests.{not-false}
-use Rattle.links.specs.Queue.{firstOf, without}
 use Rattle.links.specs.Chain.{In, Out}
 use Rattle.links.proofs.Members.{not-in-out}
 use Rattle.board.specs.declared.numbers.Size.{Size}
@@ -18,33 +15,33 @@ use Rattle.board.specs.declared.records.Task.{Task}
 use Rattle.board.specs.declared.records.Message.{Message}
 use Rattle.board.specs.declared.places.Place.the-variants.{Free, HeldBy, QueuedAt}
 use Rattle.board.specs.Numbers.{outside, taskNo}
-use Rattle.board.specs.Status.{MHBS, stored, has}
+use Rattle.board.specs.Status.{MHBS, stored}
 use Rattle.board.specs.Records.{noTask, noMessage, withStat, withPrio, withRptr, withSptr}
-use Rattle.board.specs.Board.{Board, total, boardOf, bytesOf, task, message, place, withTask, withMessage, withPlace}
+use Rattle.board.specs.Board.{Board, total, boardOf, task, message, place, withTask, withMessage, withPlace}
 use Rattle.board.specs.Writes.{putMessage}
 use Rattle.board.proofs.Pieces.{outside-within}
-use Rattle.board.proofs.Codec.{Small, small-bytes, bytes-board}
+use Rattle.board.proofs.Codec.{Small}
 use Rattle.paper.specs.declared.call.Call.{Call}
 use Rattle.paper.specs.declared.call.Call.the-variants.{Install, PostInterrupt, Find, CancelTask, Claim, Prepare, Release, Send, SendAndWait, Resend, ResendAndWait, Forward, ForwardAndWait, Return, ReturnAndWait, Receive, ReceiveAndWait, CancelMessage, WaitForInterrupt}
 use Rattle.paper.specs.declared.answer.Refusal.the-variants.{NothingToDeliver}
 use Rattle.paper.specs.declared.answer.Answer.the-variants.{Accepted, Refused}
-use Rattle.paper.specs.Rules.{present, queue, order, emptyQueue, running, passes}
-use Rattle.paper.specs.Changes.{clears, hold, withQueue, withOrder, takeFirst}
+use Rattle.paper.specs.Rules.{present, running}
+use Rattle.paper.specs.Changes.{hold}
 use Rattle.paper.specs.Effects.{ownPrio, placeAt, addressed, send, emptied, cancelMessage, waits, install, cancelTask, lowestFree}
-use Rattle.paper.specs.Refusals.{Test, no3, no4, no5, no6, no7, no8, no7Install, no9, no10, no11, no12, no13, no14, own, Verdict, Go, Stop, lowest}
-use Rattle.paper.specs.Step.{Done, done, body}
+use Rattle.paper.specs.Refusals.{Test, no3, no4, no5, no6, no7, no8, no7Install, no9, no10, no11, no12, no13, own, Verdict, Go, Stop, lowest}
+use Rattle.paper.specs.Step.{Done, body}
 use Rattle.linked.specs.Linked.{Linked, Numbered}
 use Rattle.kept.specs.Claims.{Sizes}
 use Rattle.kept.specs.Stands.{Stands}
-use Rattle.kept.proofs.Reading.{runner-says, runner-passed, go-passed, neither, task-passed, held-passed}
+use Rattle.kept.proofs.Reading.{runner-says, runner-passed, go-passed, neither, task-passed}
 use Rattle.kept.proofs.Holding.{isQueued, unqueued-out}
 use Rattle.kept.proofs.Waiting.{task-numbered}
 use Rattle.kept.proofs.Placing.{addressed-stands, sender-passed}
 use Rattle.kept.proofs.Taking.{queued-passed}
-use Rattle.queue.specs.Moves.{orderInto, orderOut, queueOut, holdIn}
+use Rattle.queue.specs.Moves.{orderOut, queueOut, holdIn}
 use Rattle.queue.proofs.Queues.{length-queue-out, queue-out}
 use Rattle.queue.proofs.Order.{length-order-into, length-order-out, order-into, order-out}
-use Rattle.inner.specs.Stores.{Stored, bodyIn, placeAtIn, addressedIn, waitsIn, takeIn}
+use Rattle.inner.specs.Stores.{Stored, bodyIn, placeAtIn, addressedIn, waitsIn}
 use Rattle.stored.proofs.Comes.{Comes, and-then, comes-same, comes-task, comes-message, comes-free, comes-held, comes-hold}
 use Rattle.stored.proofs.Bodies.{comes-emptied, comes-post, comes-wait, comes-waits, comes-placed, first-walked, comes-taken}
 

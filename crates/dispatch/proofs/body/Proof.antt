@@ -1,5 +1,5 @@
 use Rattle.paper.specs.declared.call.Call.the-variants.{Send, SendAndWait, Resend, ResendAndWait, Forward, ForwardAndWait, Return, ReturnAndWait}
-use mathlib.Core.Path.{_≡_, refl, sym, ap, _∙_}
+use mathlib.Core.Path.{refl}
 use denote.Ref.{now}
 use Rattle.dispatch.proofs.Forms.{placing-step, placing-waits}
 use borrow.Author.Needs.{needs}

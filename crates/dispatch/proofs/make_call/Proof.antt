@@ -1,4 +1,3 @@
-use mathlib.Core.Path.{_≡_, refl, sym, ap, _∙_}
 use denote.Ref.{now}
 use Rattle.dispatch.proofs.Delivering.{called}
 use borrow.Author.Needs.{needs}

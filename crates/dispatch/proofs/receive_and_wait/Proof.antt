@@ -1,4 +1,4 @@
-use mathlib.Core.Path.{_≡_, sym, ap, _∙_}
+use mathlib.Core.Path.{sym, _∙_}
 use denote.Ref.{now}
 use Rattle.dispatch.proofs.Forms.{wait-nobody, wait-runner}
 use borrow.Author.Needs.{needs}

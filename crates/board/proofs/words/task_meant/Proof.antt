@@ -1,4 +1,4 @@
-use mathlib.Core.Path.{_≡_, refl, sym, _∙_}
+use mathlib.Core.Path.{sym, _∙_}
 use denote.Ref.{now}
 use Rattle.board.proofs.ByWord.{task-of, task-none}
 use borrow.Author.Needs.{needs}

@@ -1,4 +1,4 @@
-use mathlib.Core.Path.{_≡_, sym, ap, ap₂, _∙_}
+use mathlib.Core.Path.{sym, _∙_}
 use denote.Ref.{now}
 use Rattle.inner.proofs.Answering.{test-reads, held-nobody, held-no-message, held-yes, held-not}
 use borrow.Author.Needs.{needs}

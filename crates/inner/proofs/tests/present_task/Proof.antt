@@ -1,4 +1,4 @@
-use mathlib.Core.Path.{_≡_, sym, ap, _∙_}
+use mathlib.Core.Path.{sym, ap, _∙_}
 use denote.Ref.{now}
 use Rattle.board.specs.declared.records.Task.{Task}
 use Rattle.paper.specs.Rules.{isThere}

@@ -1,7 +1,4 @@
-use Prim.Native.Nat.{ℕ, _≤_, _<_, _-_, _+_, _*_}
-use mathlib.Core.Path.{_≡_}
-use native.Mathlib.Omega.{arith}
-use lib.ListN.{length, getD}
+use Prim.Native.Nat.{ℕ, _≤_, _-_}
 use borrow.Author.Needs.{needs}
 use Rattle.show_board.proofs.lists.show_queue.Statement.{statement}
 use Rattle.show_board.proofs.lists.show_queue.Tie as tie

@@ -1,4 +1,3 @@
-use mathlib.Core.Path.{_≡_, refl, sym, ap, _∙_}
 use borrow.Author.Needs.{needs}
 use Rattle.words.proofs.verdict.judged.Statement.{statement}
 use Rattle.words.proofs.verdict.judged.Tie as tie
