@@ -23,7 +23,7 @@ pub fn byte(b: &[u8], i: usize) -> u8
     if i < b.len() { b[i] } else { 0 }
 }
 
-// The byte at i, which is there.
+// The byte at i, where it is known to be there.
 fn byte_in(b: &[u8], i: usize) -> u8
     requires { ⌜ i < length (now b) ⌝ }
     ensures { λ res. ⌜ res ≡ getD (now (b .entry)) i 0 ⌝ }
@@ -249,6 +249,7 @@ fn says_queued(z: Size, k: u16, p: u8) -> bool
     if p as u32 != 64 + k as u32 {
         return false;
     }
+    // among more than 64 tasks this byte would name a holder
     if (p as u16) <= z.tasks {
         return false;
     }
