@@ -1,10 +1,8 @@
+-- `station::sized` meets its contract.
 use mathlib.Core.Path.{refl}
 use Rattle.station.proofs.sized.Statement.{statement}
 use Rattle.station.proofs.sized.Tie as tie
-use Rattle.station.proofs.sized.Reads as reads
-use Rattle.station.proofs.sized.Lts as lts
 
--- src/lib.rt:76:1
 returns : tie.Need-returns
 returns c = refl
 

@@ -1,35 +1,18 @@
+-- `task_calls::bad_status` meets its contract.
 use mathlib.Core.Path.{sym, ap, _∙_}
 use mathlib.Core.Bool.{not}
 use borrow.Author.Needs.{needs}
 use Rattle.task_calls.proofs.bad_status.Statement.{statement}
 use Rattle.task_calls.proofs.bad_status.Tie as tie
-use Rattle.task_calls.proofs.bad_status.Reads as reads
-use Rattle.task_calls.proofs.bad_status.Lts as lts
-use Rattle.board.proofs.status.Status.has.Reads as has-reads
 
--- src/lib.rt:34:9
-has-requires : tie.Need-has-requires
-has-requires c κs = search needs
-
--- src/lib.rt:35:9
 returns : tie.Need-returns
 returns c = rw (ap not (sym (c .before .has .ensures)) ∙ c .if1 .taken)
 
--- src/lib.rt:37:8
-has-requires-2 : tie.Need-has-requires-2
-has-requires-2 c κs = search needs
-
--- src/lib.rt:38:9
 returns-2 : tie.Need-returns-2
 returns-2 c =
     let p = c .before .before in
     rw (ap not (sym (p .before .has .ensures)) ∙ p .if1 .left, sym (c .before .has2 .ensures) ∙ c .if2 .taken)
 
--- src/lib.rt:40:8
-has-requires-3 : tie.Need-has-requires-3
-has-requires-3 c κs = search needs
-
--- src/lib.rt:41:9
 returns-3 : tie.Need-returns-3
 returns-3 c =
     let w = c .before .before in
@@ -40,11 +23,6 @@ returns-3 c =
       sym (c .before .has3 .ensures) ∙ c .if3 .taken,
     )
 
--- src/lib.rt:43:8
-has-requires-4 : tie.Need-has-requires-4
-has-requires-4 c κs = search needs
-
--- src/lib.rt:44:9
 returns-4 : tie.Need-returns-4
 returns-4 c =
     let i = c .before .before in
@@ -57,11 +35,6 @@ returns-4 c =
       sym (c .before .has4 .ensures) ∙ c .if4 .taken,
     )
 
--- src/lib.rt:46:8
-has-requires-5 : tie.Need-has-requires-5
-has-requires-5 c κs = search needs
-
--- src/lib.rt:47:9
 returns-5 : tie.Need-returns-5
 returns-5 c =
     let d = c .before .before in
@@ -76,11 +49,6 @@ returns-5 c =
       sym (c .before .has5 .ensures) ∙ c .if5 .taken,
     )
 
--- src/lib.rt:49:5
-has-requires-6 : tie.Need-has-requires-6
-has-requires-6 c κs = search needs
-
--- src/lib.rt:31:1
 returns-6 : tie.Need-returns-6
 returns-6 c =
     let q = c .before in
@@ -100,16 +68,5 @@ returns-6 c =
 pub bad-status-spec : {M : Type 1} → statement M
 bad-status-spec =
     tie.close
-    (tie.spec
-    has-requires
-    returns
-    has-requires-2
-    returns-2
-    has-requires-3
-    returns-3
-    has-requires-4
-    returns-4
-    has-requires-5
-    returns-5
-    has-requires-6
-    returns-6)
+    (tie.spec (λ c κs. search needs) returns (λ c κs. search needs) returns-2 (λ c κs. search needs) returns-3
+    (λ c κs. search needs) returns-4 (λ c κs. search needs) returns-5 (λ c κs. search needs) returns-6)

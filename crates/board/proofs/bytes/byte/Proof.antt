@@ -1,23 +1,13 @@
+-- `board::bytes::byte` meets its contract.
 use mathlib.Core.Path.{sym}
 use denote.Ref.{now}
 use lib.ListN.{List·getD-eq-default}
 use borrow.Author.Needs.{needs}
 use Rattle.board.proofs.bytes.byte.Statement.{statement}
 use Rattle.board.proofs.bytes.byte.Tie as tie
-use Rattle.board.proofs.bytes.byte.Reads as reads
-use Rattle.board.proofs.bytes.byte.Lts as lts
 
--- src/bytes.rt:22:22
-shared-slice-read-result : tie.Need-shared-slice-read-result
-shared-slice-read-result c = search needs
-
--- src/bytes.rt:18:1
-returns : tie.Need-returns
-returns c = search needs
-
--- src/bytes.rt:18:1
 returns-2 : tie.Need-returns-2
 returns-2 c = sym (List·getD-eq-default (now (c .before .args .b)) 0 (c .if1 .left))
 
 pub byte-spec : {M : Type 1} → statement M
-byte-spec = tie.close (tie.spec shared-slice-read-result returns returns-2)
+byte-spec = tie.close (tie.spec (λ c. search needs) (λ c. search needs) returns-2)

@@ -1,22 +1,14 @@
+-- `message_calls::sends::sender` meets its contract.
 use Rattle.message_calls.proofs.Sending.{sender-given, sender-left}
 use borrow.Author.Needs.{needs}
 use Rattle.message_calls.proofs.sends.sender.Statement.{statement}
 use Rattle.message_calls.proofs.sends.sender.Tie as tie
-use Rattle.message_calls.proofs.sends.sender.Reads as reads
-use Rattle.message_calls.proofs.sends.sender.Lts as lts
-use Rattle.board.proofs.numbers.TaskNo.number.Reads as number-reads
 
--- src/sends.rt:39:9
-number-requires : tie.Need-number-requires
-number-requires c κs = search needs
-
--- src/sends.rt:39:9
 returns : tie.Need-returns
 returns c = sender-given (c .before .before .args .sptr) (c .before .before .args .c .0) _ (c .before .if1 .taken) (c .number .ensures)
 
--- src/sends.rt:35:1
 returns-2 : tie.Need-returns-2
 returns-2 c = sender-left (c .before .args .sptr) (c .before .args .c .0) (c .if1 .left)
 
 pub sender-spec : {M : Type 1} → statement M
-sender-spec = tie.close (tie.spec number-requires returns returns-2)
+sender-spec = tie.close (tie.spec (λ c κs. search needs) returns returns-2)

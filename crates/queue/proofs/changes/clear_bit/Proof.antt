@@ -1,46 +1,21 @@
+-- `queue::changes::clear_bit` meets its contract.
 use denote.Ref.{now}
 use Rattle.queue.proofs.Stores.{bit-cleared}
 use borrow.Author.Needs.{needs}
 use Rattle.queue.proofs.changes.clear_bit.Statement.{statement}
 use Rattle.queue.proofs.changes.clear_bit.Tie as tie
-use Rattle.queue.proofs.changes.clear_bit.Reads as reads
-use Rattle.queue.proofs.changes.clear_bit.Lts as lts
-use Rattle.board.proofs.bytes.put_task.Reads as put-task-reads
-use Rattle.board.proofs.bytes.task_at.Reads as task-at-reads
-use Rattle.board.proofs.records.Task.with_stat.Reads as with-stat-reads
-use Rattle.board.proofs.status.Status.without.Reads as without-reads
 
--- src/changes.rt:29:9
-task-at-requires : tie.Need-task-at-requires
-task-at-requires c κs = search needs
-
--- src/changes.rt:31:35
-without-requires : tie.Need-without-requires
-without-requires c κs = search needs
-
--- src/changes.rt:31:23
-with-stat-requires : tie.Need-with-stat-requires
-with-stat-requires c κs = search needs
-
--- src/changes.rt:31:5
-put-task-requires : tie.Need-put-task-requires
-put-task-requires c κs = search needs
-
--- src/changes.rt:26:1
-same-length : tie.Need-same-length
-same-length c = search needs
-
--- src/changes.rt:26:1
 returns : tie.Need-returns
-returns c = bit-cleared (c .before .before .before .before .before .before .before .before .before .before .args .z) (now (c .before .before .before .before .before .before .before .before .before .before .args .b)) (c .before .before .before .before .before .before .before .before .before .before .args .k .0) (c .before .before .before .before .before .before .before .task-at .result) (c .before .before .before .with-stat .result) _ (c .before .before .before .before .before .before .before .task-at .ensures) (c .before .before .put-task .ensures) (c .before .before .before .before .without .result) (c .before .before .before .before .before .before .before .before .before .before .args .bit) (c .before .before .before .before .without .ensures) (c .before .before .before .with-stat .ensures)
+returns c =
+    let r = c .before .before .before in
+    let s = r .before .before .before .before in
+    let a = s .before .before .before .args in
+    bit-cleared (a .z) (now (a .b)) (a .k .0) (s .task-at .result) (r .with-stat .result) _ (s .task-at .ensures)
+    (c .before .before .put-task .ensures) (r .before .without .result) (a .bit) (r .before .without .ensures)
+    (r .with-stat .ensures)
 
 pub clear-bit-spec : {M : Type 1} → statement M
 clear-bit-spec =
     tie.close
-    (tie.spec
-    task-at-requires
-    without-requires
-    with-stat-requires
-    put-task-requires
-    same-length
-    returns)
+    (tie.spec (λ c κs. search needs) (λ c κs. search needs) (λ c κs. search needs) (λ c κs. search needs)
+    (λ c. search needs) returns)

@@ -1,62 +1,28 @@
+-- `queue::changes::link_task` meets its contract.
 use mathlib.Core.Path.{sym, _∙_}
 use denote.Ref.{now}
 use Rattle.queue.proofs.Stores.{task-linked, link-task-meant, link-task-none}
 use borrow.Author.Needs.{needs}
 use Rattle.queue.proofs.changes.link_task.Statement.{statement}
 use Rattle.queue.proofs.changes.link_task.Tie as tie
-use Rattle.queue.proofs.changes.link_task.Reads as reads
-use Rattle.queue.proofs.changes.link_task.Lts as lts
-use Rattle.board.proofs.bytes.put_task.Reads as put-task-reads
-use Rattle.board.proofs.bytes.task_at.Reads as task-at-reads
-use Rattle.board.proofs.numbers.TaskNo.meant.Reads as meant-reads
-use Rattle.board.proofs.records.Task.with_link.Reads as with-link-reads
 
--- src/changes.rt:46:9
-meant-requires : tie.Need-meant-requires
-meant-requires c κs = search needs
-
--- src/changes.rt:47:25
-enum-known-meant : tie.Need-enum-known-meant
-enum-known-meant c = search needs
-
--- src/changes.rt:48:9
-enum-told : tie.Need-enum-told
-enum-told c = search needs
-
--- src/changes.rt:48:9
 returns : tie.Need-returns
-returns c = link-task-none (c .before .before .before .before .args .z) (now (c .before .before .before .before .args .b)) (c .before .before .before .before .args .w) (c .before .before .before .before .args .next) (sym (c .before .before .meant .ensures) ∙ c .enum-told .given .1)
+returns c =
+    let a = c .before .before .before .before .args in
+    link-task-none (a .z) (now (a .b)) (a .w) (a .next)
+    (sym (c .before .before .meant .ensures) ∙ c .enum-told .given .1)
 
--- src/changes.rt:50:9
-task-at-requires : tie.Need-task-at-requires
-task-at-requires c κs = search needs
-
--- src/changes.rt:51:23
-with-link-requires : tie.Need-with-link-requires
-with-link-requires c κs = search needs
-
--- src/changes.rt:51:5
-put-task-requires : tie.Need-put-task-requires
-put-task-requires c κs = search needs
-
--- src/changes.rt:43:1
-same-length : tie.Need-same-length
-same-length c = search needs
-
--- src/changes.rt:43:1
 returns-2 : tie.Need-returns-2
-returns-2 c = link-task-meant (c .before .before .before .before .before .before .before .before .before .before .before .before .args .z) (now (c .before .before .before .before .before .before .before .before .before .before .before .before .args .b)) (c .before .before .before .before .before .before .before .before .before .before .before .before .args .w) (c .before .before .before .before .before .before .before .before .before .before .before .before .args .next) (c .before .before .before .before .before .before .before .before .meant2 .given .0 .0) _ (sym (c .before .before .before .before .before .before .before .before .before .before .meant .ensures) ∙ c .before .before .before .before .before .before .before .before .meant2 .given .1) (task-linked (c .before .before .before .before .before .before .before .before .before .before .before .before .args .z) (now (c .before .before .before .before .before .before .before .before .before .before .before .before .args .b)) (c .before .before .before .before .before .before .before .before .meant2 .given .0 .0 .0) (c .before .before .before .before .before .task-at .result) (c .before .before .before .with-link .result) _ (c .before .before .before .before .before .task-at .ensures) (c .before .before .put-task .ensures) (c .before .before .before .before .before .before .before .before .before .before .before .before .args .next) (c .before .before .before .with-link .ensures))
+returns-2 c =
+    let r = c .before .before .before in
+    let s = r .before .before .before .before .before in
+    let a = s .before .before .before .before .args in
+    link-task-meant (a .z) (now (a .b)) (a .w) (a .next) (s .meant2 .given .0 .0) _
+    (sym (s .before .before .meant .ensures) ∙ s .meant2 .given .1)
+    (task-linked (a .z) (now (a .b)) (s .meant2 .given .0 .0 .0) (r .before .before .task-at .result) (r .with-link .result) _ (r .before .before .task-at .ensures) (c .before .before .put-task .ensures) (a .next) (r .with-link .ensures))
 
 pub link-task-spec : {M : Type 1} → statement M
 link-task-spec =
     tie.close
-    (tie.spec
-    meant-requires
-    enum-known-meant
-    enum-told
-    returns
-    task-at-requires
-    with-link-requires
-    put-task-requires
-    same-length
-    returns-2)
+    (tie.spec (λ c κs. search needs) (λ c. search needs) (λ c. search needs) returns (λ c κs. search needs)
+    (λ c κs. search needs) (λ c κs. search needs) (λ c. search needs) returns-2)

@@ -1,3 +1,4 @@
+-- `queue::seek::place_of_task` meets its contract.
 use mathlib.Core.Path.{refl, ap}
 use native.Mathlib.Omega.{arith}
 use borrow.Author.Needs.{needs}
@@ -9,9 +10,6 @@ use Rattle.paper.specs.Rules.{nextTask}
 use Rattle.queue.proofs.Seeks.{Seeks, ended, stopped, passed, spent}
 use Rattle.queue.proofs.seek.place_of_task.Statement.{statement}
 use Rattle.queue.proofs.seek.place_of_task.Tie as tie
-use Rattle.queue.proofs.seek.place_of_task.Reads as reads
-use Rattle.queue.proofs.seek.place_of_task.Lts as lts
-use Rattle.board.proofs.words.task_meant.Reads as task-meant-reads
 
 abbrev Inv-loop : tie.InvT-loop
 Inv-loop z b x k left₀ prev₀ cur₀ left prev cur = Seeks (λ y. eqb y k) (nextTask (boardOf z b)) (z .messages) x left prev cur
@@ -19,49 +17,28 @@ Inv-loop z b x k left₀ prev₀ cur₀ left prev cur = Seeks (λ y. eqb y k) (n
 abbrev μ-loop : tie.MeasureT-loop
 μ-loop z b x k left₀ prev₀ cur₀ left prev cur = left
 
--- src/seek.rt:130:5
 loop-holds : tie.Need-loop-holds Inv-loop μ-loop
 loop-holds c = record { same = refl }
 
--- src/seek.rt:132:13
 returns : tie.Need-returns Inv-loop μ-loop
 returns c = ended (c .before .before .loop .inv) (c .if1 .taken)
 
--- src/seek.rt:138:13
 returns-2 : tie.Need-returns-2 Inv-loop μ-loop
-returns-2 c = stopped (c .before .before .before .loop .inv) (eq-eqb (c .before .before .before .loop .cur) (c .before .before .before .before .before .args .k) (c .if2 .taken))
+returns-2 c =
+    let s = c .before .before .before in
+    stopped (s .loop .inv) (eq-eqb (s .loop .cur) (s .before .before .args .k) (c .if2 .taken))
 
--- src/seek.rt:143:13
-task-meant-requires : tie.Need-task-meant-requires Inv-loop μ-loop
-task-meant-requires c κs = search needs
-
--- src/seek.rt:146:9
-sub-left : tie.Need-sub-left Inv-loop μ-loop
-sub-left c = search needs
-
--- src/seek.rt:130:5
 loop-less : tie.Need-loop-less Inv-loop μ-loop
 loop-less c = omega arith
 
--- src/seek.rt:130:5
 loop-again : tie.Need-loop-again Inv-loop μ-loop
 loop-again c = passed (c .before .before .before .before .loop .inv) (c .task-meant .result .link) (c .before .before .before .loop-test .taken) (c .before .before .if1 .left) (ne-eqb (c .before .before .before .before .loop .cur) (c .before .before .before .before .before .before .args .k) (c .before .if2 .left)) (ap (λ (r : Task). r .link) (c .task-meant .ensures))
 
--- src/seek.rt:124:1
 returns-3 : tie.Need-returns-3 Inv-loop μ-loop
 returns-3 c = spent (c .before .loop .inv) (c .loop-test .left)
 
 pub place-of-task-spec : {M : Type 1} → statement M
 place-of-task-spec =
     tie.close
-    (tie.spec
-    Inv-loop
-    μ-loop
-    loop-holds
-    returns
-    returns-2
-    task-meant-requires
-    sub-left
-    loop-less
-    loop-again
-    returns-3)
+    (tie.spec Inv-loop μ-loop loop-holds returns returns-2 (λ c κs. search needs) (λ c. search needs) loop-less
+    loop-again returns-3)

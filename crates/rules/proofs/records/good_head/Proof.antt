@@ -1,26 +1,13 @@
+-- `rules::records::good_head` meets its contract.
 use mathlib.Core.Path.{sym, _∙_}
 use borrow.Author.Tests.{not-true, not-false}
 use borrow.Author.Needs.{needs}
 use Rattle.rules.proofs.records.good_head.Statement.{statement}
 use Rattle.rules.proofs.records.good_head.Tie as tie
-use Rattle.rules.proofs.records.good_head.Reads as reads
-use Rattle.rules.proofs.records.good_head.Lts as lts
-use Rattle.board.proofs.status.Status.has.Reads as has-reads
-use Rattle.rules.proofs.records.task_prio.Reads as task-prio-reads
 
--- src/records.rt:70:9
-has-requires : tie.Need-has-requires
-has-requires c κs = search needs
-
--- src/records.rt:71:9
 returns : tie.Need-returns
 returns c = rw (sym (c .before .has .ensures) ∙ not-true _ (c .if1 .taken))
 
--- src/records.rt:73:8
-has-requires-2 : tie.Need-has-requires-2
-has-requires-2 c κs = search needs
-
--- src/records.rt:74:9
 returns-2 : tie.Need-returns-2
 returns-2 c =
     rw (
@@ -29,11 +16,6 @@ returns-2 c =
           ∙ c .if2 .taken,
     )
 
--- src/records.rt:76:5
-task-prio-requires : tie.Need-task-prio-requires
-task-prio-requires c κs = search needs
-
--- src/records.rt:67:1
 returns-3 : tie.Need-returns-3
 returns-3 c =
     rw (
@@ -44,4 +26,5 @@ returns-3 c =
 
 pub good-head-spec : {M : Type 1} → statement M
 good-head-spec =
-    tie.close (tie.spec has-requires returns has-requires-2 returns-2 task-prio-requires returns-3)
+    tie.close
+    (tie.spec (λ c κs. search needs) returns (λ c κs. search needs) returns-2 (λ c κs. search needs) returns-3)

@@ -1,3 +1,4 @@
+-- `rules::records::rule2` meets its contract.
 use mathlib.Core.Path.{_≡_, refl, ap, _∙_}
 use mathlib.Core.Bool.{true}
 use Prim.Native.Nat.{_-_, _≤_}
@@ -10,10 +11,6 @@ use Rattle.paper.specs.Rules.{goodTask, rule2At}
 use Rattle.rules.proofs.Turns.{each-next, each-fails, each-done}
 use Rattle.rules.proofs.records.rule2.Statement.{statement}
 use Rattle.rules.proofs.records.rule2.Tie as tie
-use Rattle.rules.proofs.records.rule2.Reads as reads
-use Rattle.rules.proofs.records.rule2.Lts as lts
-use Rattle.board.proofs.words.task_meant.Reads as task-meant-reads
-use Rattle.rules.proofs.records.good_task.Reads as good-task-reads
 
 abbrev Inv-loop : tie.InvT-loop
 Inv-loop z b most k₀ k = (k ≤ most) × (most ≡ z .tasks) × (each (rule2At (boardOf z b)) k ≡ true)
@@ -21,23 +18,12 @@ Inv-loop z b most k₀ k = (k ≤ most) × (most ≡ z .tasks) × (each (rule2At
 abbrev μ-loop : tie.MeasureT-loop
 μ-loop z b most k₀ k = most - k
 
--- src/records.rt:93:5
 loop-holds : tie.Need-loop-holds Inv-loop μ-loop
 loop-holds c = (omega arith, refl, refl)
 
--- src/records.rt:94:9
 add-k : tie.Need-add-k Inv-loop μ-loop
 add-k c = omega arith
 
--- src/records.rt:95:23
-task-meant-requires : tie.Need-task-meant-requires Inv-loop μ-loop
-task-meant-requires c κs = search needs
-
--- src/records.rt:95:13
-good-task-requires : tie.Need-good-task-requires Inv-loop μ-loop
-good-task-requires c κs = search needs
-
--- src/records.rt:96:13
 returns : tie.Need-returns Inv-loop μ-loop
 returns c =
     let l = c .before .before .before .before .loop in
@@ -47,11 +33,9 @@ returns c =
     (c .before .good-task .ensures ∙ ap goodTask (c .before .before .task-meant .ensures))
     (c .if1 .taken)
 
--- src/records.rt:93:5
 loop-less : tie.Need-loop-less Inv-loop μ-loop
 loop-less c = omega arith
 
--- src/records.rt:93:5
 loop-again : tie.Need-loop-again Inv-loop μ-loop
 loop-again c =
     let l = c .before .before .before .before .loop in
@@ -63,7 +47,6 @@ loop-again c =
           (c .if1 .left) (l .inv .2),
     )
 
--- src/records.rt:88:1
 returns-2 : tie.Need-returns-2 Inv-loop μ-loop
 returns-2 c =
     let l = c .before .loop in
@@ -74,14 +57,5 @@ returns-2 c =
 pub rule2-spec : {M : Type 1} → statement M
 rule2-spec =
     tie.close
-    (tie.spec
-    Inv-loop
-    μ-loop
-    loop-holds
-    add-k
-    task-meant-requires
-    good-task-requires
-    returns
-    loop-less
-    loop-again
-    returns-2)
+    (tie.spec Inv-loop μ-loop loop-holds add-k (λ c κs. search needs) (λ c κs. search needs) returns loop-less
+    loop-again returns-2)

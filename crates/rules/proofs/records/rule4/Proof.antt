@@ -1,3 +1,4 @@
+-- `rules::records::rule4` meets its contract.
 use mathlib.Core.Path.{_≡_, refl, ap₂, _∙_}
 use mathlib.Core.Bool.{true}
 use Prim.Native.Nat.{_-_, _≤_}
@@ -10,11 +11,6 @@ use Rattle.paper.specs.Rules.{present, goodMessage, rule4At}
 use Rattle.rules.proofs.Turns.{each-next, each-fails, each-done}
 use Rattle.rules.proofs.records.rule4.Statement.{statement}
 use Rattle.rules.proofs.records.rule4.Tie as tie
-use Rattle.rules.proofs.records.rule4.Reads as reads
-use Rattle.rules.proofs.records.rule4.Lts as lts
-use Rattle.board.proofs.words.message_meant.Reads as message-meant-reads
-use Rattle.board.proofs.words.place_meant.Reads as place-meant-reads
-use Rattle.rules.proofs.records.good_message.Reads as good-message-reads
 
 abbrev Inv-loop : tie.InvT-loop
 Inv-loop z b most m₀ m = (m ≤ most) × (most ≡ z .messages) × (each (rule4At z (boardOf z b)) m ≡ true)
@@ -22,27 +18,12 @@ Inv-loop z b most m₀ m = (m ≤ most) × (most ≡ z .messages) × (each (rule
 abbrev μ-loop : tie.MeasureT-loop
 μ-loop z b most m₀ m = most - m
 
--- src/records.rt:181:5
 loop-holds : tie.Need-loop-holds Inv-loop μ-loop
 loop-holds c = (omega arith, refl, refl)
 
--- src/records.rt:182:9
 add-m : tie.Need-add-m Inv-loop μ-loop
 add-m c = omega arith
 
--- src/records.rt:183:13
-message-meant-requires : tie.Need-message-meant-requires Inv-loop μ-loop
-message-meant-requires c κs = search needs
-
--- src/records.rt:184:13
-place-meant-requires : tie.Need-place-meant-requires Inv-loop μ-loop
-place-meant-requires c κs = search needs
-
--- src/records.rt:185:13
-good-message-requires : tie.Need-good-message-requires Inv-loop μ-loop
-good-message-requires c κs = search needs
-
--- src/records.rt:186:13
 returns : tie.Need-returns Inv-loop μ-loop
 returns c =
     let l = c .before .before .before .before .before .loop in
@@ -54,11 +35,9 @@ returns c =
     (c .before .before .place-meant .ensures))
     (c .if1 .taken)
 
--- src/records.rt:181:5
 loop-less : tie.Need-loop-less Inv-loop μ-loop
 loop-less c = omega arith
 
--- src/records.rt:181:5
 loop-again : tie.Need-loop-again Inv-loop μ-loop
 loop-again c =
     let l = c .before .before .before .before .before .loop in
@@ -72,7 +51,6 @@ loop-again c =
           (c .if1 .left) (l .inv .2),
     )
 
--- src/records.rt:176:1
 returns-2 : tie.Need-returns-2 Inv-loop μ-loop
 returns-2 c =
     let l = c .before .loop in
@@ -83,15 +61,5 @@ returns-2 c =
 pub rule4-spec : {M : Type 1} → statement M
 rule4-spec =
     tie.close
-    (tie.spec
-    Inv-loop
-    μ-loop
-    loop-holds
-    add-m
-    message-meant-requires
-    place-meant-requires
-    good-message-requires
-    returns
-    loop-less
-    loop-again
-    returns-2)
+    (tie.spec Inv-loop μ-loop loop-holds add-m (λ c κs. search needs) (λ c κs. search needs) (λ c κs. search needs)
+    returns loop-less loop-again returns-2)

@@ -1,3 +1,4 @@
+-- `rules::records::rule6` meets its contract.
 use mathlib.Core.Path.{_≡_, refl, ap, _∙_}
 use mathlib.Core.Bool.{true}
 use Prim.Native.Nat.{_-_, _≤_}
@@ -12,10 +13,6 @@ use Rattle.paper.specs.Rules.{goodFlags, rule6At}
 use Rattle.rules.proofs.Turns.{each-next, each-fails, each-done}
 use Rattle.rules.proofs.records.rule6.Statement.{statement}
 use Rattle.rules.proofs.records.rule6.Tie as tie
-use Rattle.rules.proofs.records.rule6.Reads as reads
-use Rattle.rules.proofs.records.rule6.Lts as lts
-use Rattle.board.proofs.words.task_meant.Reads as task-meant-reads
-use Rattle.rules.proofs.records.good_flags.Reads as good-flags-reads
 
 abbrev Inv-loop : tie.InvT-loop
 Inv-loop z b most k₀ k = (k ≤ most) × (most ≡ z .tasks) × (each (rule6At (boardOf z b)) k ≡ true)
@@ -23,23 +20,12 @@ Inv-loop z b most k₀ k = (k ≤ most) × (most ≡ z .tasks) × (each (rule6At
 abbrev μ-loop : tie.MeasureT-loop
 μ-loop z b most k₀ k = most - k
 
--- src/records.rt:222:5
 loop-holds : tie.Need-loop-holds Inv-loop μ-loop
 loop-holds c = (omega arith, refl, refl)
 
--- src/records.rt:223:9
 add-k : tie.Need-add-k Inv-loop μ-loop
 add-k c = omega arith
 
--- src/records.rt:224:13
-task-meant-requires : tie.Need-task-meant-requires Inv-loop μ-loop
-task-meant-requires c κs = search needs
-
--- src/records.rt:225:13
-good-flags-requires : tie.Need-good-flags-requires Inv-loop μ-loop
-good-flags-requires c κs = search needs
-
--- src/records.rt:226:13
 returns : tie.Need-returns Inv-loop μ-loop
 returns c =
     let l = c .before .before .before .before .before .loop in
@@ -50,11 +36,9 @@ returns c =
     ∙ ap (λ (t : Task). goodFlags (t .stat) (eqb (t .mptr) 0)) (c .before .before .before .task-meant .ensures))
     (c .if1 .taken)
 
--- src/records.rt:222:5
 loop-less : tie.Need-loop-less Inv-loop μ-loop
 loop-less c = omega arith
 
--- src/records.rt:222:5
 loop-again : tie.Need-loop-again Inv-loop μ-loop
 loop-again c =
     let l = c .before .before .before .before .before .loop in
@@ -67,7 +51,6 @@ loop-again c =
           (c .if1 .left) (l .inv .2),
     )
 
--- src/records.rt:217:1
 returns-2 : tie.Need-returns-2 Inv-loop μ-loop
 returns-2 c =
     let l = c .before .loop in
@@ -78,14 +61,5 @@ returns-2 c =
 pub rule6-spec : {M : Type 1} → statement M
 rule6-spec =
     tie.close
-    (tie.spec
-    Inv-loop
-    μ-loop
-    loop-holds
-    add-k
-    task-meant-requires
-    good-flags-requires
-    returns
-    loop-less
-    loop-again
-    returns-2)
+    (tie.spec Inv-loop μ-loop loop-holds add-k (λ c κs. search needs) (λ c κs. search needs) returns loop-less
+    loop-again returns-2)

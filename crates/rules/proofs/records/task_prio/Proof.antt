@@ -1,22 +1,14 @@
+-- `rules::records::task_prio` meets its contract.
 use mathlib.Core.Path.{refl, sym, _∙_}
 use native.Mathlib.Omega.{arith}
 use borrow.Author.Tests.{not-true, not-false, le-leb, lt-leb}
 use borrow.Author.Needs.{needs}
 use Rattle.rules.proofs.records.task_prio.Statement.{statement}
 use Rattle.rules.proofs.records.task_prio.Tie as tie
-use Rattle.rules.proofs.records.task_prio.Reads as reads
-use Rattle.rules.proofs.records.task_prio.Lts as lts
-use Rattle.board.proofs.priority.fifo.Reads as fifo-reads
 
--- src/records.rt:58:9
-fifo-requires : tie.Need-fifo-requires
-fifo-requires c κs = search needs
-
--- src/records.rt:59:9
 returns : tie.Need-returns
 returns c = rw (sym (c .before .fifo .ensures) ∙ not-true _ (c .if1 .taken))
 
--- src/records.rt:62:9
 returns-2 : tie.Need-returns-2
 returns-2 c =
     rw (
@@ -25,7 +17,6 @@ returns-2 c =
           (c .before .before .before .args .p) (omega arith),
     )
 
--- src/records.rt:55:1
 returns-3 : tie.Need-returns-3
 returns-3 c =
     rw (
@@ -35,4 +26,4 @@ returns-3 c =
     ) refl
 
 pub task-prio-spec : {M : Type 1} → statement M
-task-prio-spec = tie.close (tie.spec fifo-requires returns returns-2 returns-3)
+task-prio-spec = tie.close (tie.spec (λ c κs. search needs) returns returns-2 returns-3)

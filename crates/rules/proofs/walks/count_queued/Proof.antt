@@ -1,3 +1,4 @@
+-- `rules::walks::count_queued` meets its contract.
 use mathlib.Core.Path.{_≡_, refl, sym, ap, _∙_}
 use Prim.Native.Nat.{_-_, _≤_}
 use native.Mathlib.Omega.{arith}
@@ -9,9 +10,6 @@ use Rattle.rules.proofs.Turns.{count-starts, count-yes, count-no, count
 use Rattle.rules.proofs.Tests.{not-queued}
 use Rattle.rules.proofs.walks.count_queued.Statement.{statement}
 use Rattle.rules.proofs.walks.count_queued.Tie as tie
-use Rattle.rules.proofs.walks.count_queued.Reads as reads
-use Rattle.rules.proofs.walks.count_queued.Lts as lts
-use Rattle.board.proofs.words.place_meant.Reads as place-meant-reads
 
 abbrev Inv-loop : tie.InvT-loop
 Inv-loop z b most m₀ n₀ m n = (m ≤ most) × (most ≡ z .messages) × (n ≡ counted (queued (boardOf z b)) m)
@@ -19,33 +17,20 @@ Inv-loop z b most m₀ n₀ m n = (m ≤ most) × (most ≡ z .messages) × (n �
 abbrev μ-loop : tie.MeasureT-loop
 μ-loop z b most m₀ n₀ m n = most - m
 
--- src/walks.rt:149:5
 loop-holds : tie.Need-loop-holds Inv-loop μ-loop
 loop-holds c =
     let a = c .before .args in
     (omega arith, refl, count-starts (queued (boardOf (a .z) (now (a .b)))))
 
--- src/walks.rt:150:9
 add-m : tie.Need-add-m Inv-loop μ-loop
 add-m c = omega arith
 
--- src/walks.rt:151:13
-place-meant-requires : tie.Need-place-meant-requires Inv-loop μ-loop
-place-meant-requires c κs = search needs
-
--- src/walks.rt:153:13
-enum-told : tie.Need-enum-told Inv-loop μ-loop
-enum-told c = search needs
-
--- src/walks.rt:153:13
 add-n : tie.Need-add-n Inv-loop μ-loop
 add-n c = omega (arith, count-bound _ _ _ (c .before .before .before .before .loop .inv .2))
 
--- src/walks.rt:149:5
 loop-less : tie.Need-loop-less Inv-loop μ-loop
 loop-less c = omega arith
 
--- src/walks.rt:149:5
 loop-again : tie.Need-loop-again Inv-loop μ-loop
 loop-again c = (
   omega arith,
@@ -54,11 +39,9 @@ loop-again c = (
       (ap isQueued (sym (c .before .before .place-meant .ensures) ∙ c .enum-told .given .1)),
 )
 
--- src/walks.rt:149:5
 loop-less-2 : tie.Need-loop-less-2 Inv-loop μ-loop
 loop-less-2 c = omega arith
 
--- src/walks.rt:149:5
 loop-again-2 : tie.Need-loop-again-2 Inv-loop μ-loop
 loop-again-2 c = (
   omega arith,
@@ -67,7 +50,6 @@ loop-again-2 c = (
       (not-queued _ (c .before .place-meant .result) (c .before .place-meant .ensures) (c .match .keys2)),
 )
 
--- src/walks.rt:143:1
 returns : tie.Need-returns Inv-loop μ-loop
 returns c =
     let l = c .before .loop in
@@ -78,16 +60,5 @@ returns c =
 pub count-queued-spec : {M : Type 1} → statement M
 count-queued-spec =
     tie.close
-    (tie.spec
-    Inv-loop
-    μ-loop
-    loop-holds
-    add-m
-    place-meant-requires
-    enum-told
-    add-n
-    loop-less
-    loop-again
-    loop-less-2
-    loop-again-2
-    returns)
+    (tie.spec Inv-loop μ-loop loop-holds add-m (λ c κs. search needs) (λ c. search needs) add-n loop-less loop-again
+    loop-less-2 loop-again-2 returns)

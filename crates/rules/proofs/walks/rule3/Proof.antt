@@ -1,3 +1,4 @@
+-- `rules::walks::rule3` meets its contract.
 use mathlib.Core.Path.{sym, ap, ap₂, _∙_}
 use denote.Ref.{now}
 use Rattle.board.specs.Board.{boardOf}
@@ -9,24 +10,7 @@ use Rattle.rules.proofs.Lists.{saw, rule3-is}
 use borrow.Author.Needs.{needs}
 use Rattle.rules.proofs.walks.rule3.Statement.{statement}
 use Rattle.rules.proofs.walks.rule3.Tie as tie
-use Rattle.rules.proofs.walks.rule3.Reads as reads
-use Rattle.rules.proofs.walks.rule3.Lts as lts
-use Rattle.rules.proofs.walks.count_present.Reads as count-present-reads
-use Rattle.rules.proofs.walks.walk_tasks.Reads as walk-tasks-reads
 
--- src/walks.rt:89:9
-walk-tasks-requires : tie.Need-walk-tasks-requires
-walk-tasks-requires c κs = search needs
-
--- src/walks.rt:90:22
-enum-known-walked : tie.Need-enum-known-walked
-enum-known-walked c = search needs
-
--- src/walks.rt:91:9
-enum-told : tie.Need-enum-told
-enum-told c = search needs
-
--- src/walks.rt:91:9
 returns : tie.Need-returns
 returns c =
     let a = c .before .before .before .before .args in
@@ -35,15 +19,6 @@ returns c =
     (sym (c .enum-told .given .1) ∙ c .before .before .walk-tasks .ensures)
     ∙ rule3-is (a .z) b (length-tasks (a .z) (now (a .b)))
 
--- src/walks.rt:93:10
-count-present-requires : tie.Need-count-present-requires
-count-present-requires c κs = search needs
-
--- src/walks.rt:93:10
-cast-result : tie.Need-cast-result
-cast-result c = search needs
-
--- src/walks.rt:86:1
 returns-2 : tie.Need-returns-2
 returns-2 c =
     let a = c .before .before .before .before .before .before .args in
@@ -55,11 +30,5 @@ returns-2 c =
 pub rule3-spec : {M : Type 1} → statement M
 rule3-spec =
     tie.close
-    (tie.spec
-    walk-tasks-requires
-    enum-known-walked
-    enum-told
-    returns
-    count-present-requires
-    cast-result
-    returns-2)
+    (tie.spec (λ c κs. search needs) (λ c. search needs) (λ c. search needs) returns (λ c κs. search needs)
+    (λ c. search needs) returns-2)

@@ -1,3 +1,4 @@
+-- `words::totals::blocks` meets its contract.
 use mathlib.Core.Path.{_≡_, sym, ap, _∙_}
 use Prim.Native.Nat.{_-_, _≤_}
 use native.Mathlib.Omega.{arith}
@@ -10,9 +11,6 @@ use Rattle.words.specs.Totals.{within}
 use borrow.Author.Needs.{needs}
 use Rattle.words.proofs.totals.blocks.Statement.{statement}
 use Rattle.words.proofs.totals.blocks.Tie as tie
-use Rattle.words.proofs.totals.blocks.Reads as reads
-use Rattle.words.proofs.totals.blocks.Lts as lts
-use Rattle.words.proofs.totals.lies.Reads as lies-reads
 
 abbrev Inv-loop : tie.InvT-loop
 Inv-loop b low high m₀ n₀ m n = (m ≤ 128) × (n ≡ counted (within (boardOf small b) low high) m)
@@ -20,54 +18,32 @@ Inv-loop b low high m₀ n₀ m n = (m ≤ 128) × (n ≡ counted (within (board
 abbrev μ-loop : tie.MeasureT-loop
 μ-loop b low high m₀ n₀ m n = 128 - m
 
--- src/totals.rt:46:5
 loop-holds : tie.Need-loop-holds Inv-loop μ-loop
 loop-holds c = (omega arith, count-starts (within (boardOf small (now (c .before .args .b))) (c .before .args .low) (c .before .args .high)))
 
--- src/totals.rt:47:9
 add-m : tie.Need-add-m Inv-loop μ-loop
 add-m c = omega arith
 
--- src/totals.rt:48:12
-lies-requires : tie.Need-lies-requires Inv-loop μ-loop
-lies-requires c κs = search needs
-
--- src/totals.rt:49:13
 add-n : tie.Need-add-n Inv-loop μ-loop
 add-n c = omega (arith, count-bound _ _ _ (c .before .before .before .loop .inv .1))
 
--- src/totals.rt:46:5
 loop-less : tie.Need-loop-less Inv-loop μ-loop
 loop-less c = omega arith
 
--- src/totals.rt:46:5
 loop-again : tie.Need-loop-again Inv-loop μ-loop
 loop-again c = (omega arith, count-yes _ _ _ (c .before .before .before .loop .inv .1) (sym (c .before .lies .ensures) ∙ c .if1 .taken))
 
--- src/totals.rt:46:5
 loop-less-2 : tie.Need-loop-less-2 Inv-loop μ-loop
 loop-less-2 c = omega arith
 
--- src/totals.rt:46:5
 loop-again-2 : tie.Need-loop-again-2 Inv-loop μ-loop
 loop-again-2 c = (omega arith, count-no _ _ _ (c .before .before .before .loop .inv .1) (sym (c .before .lies .ensures) ∙ c .if1 .left))
 
--- src/totals.rt:41:1
 returns : tie.Need-returns Inv-loop μ-loop
 returns c = (c .before .loop .inv .1 ∙ ap (counted (within (boardOf small (now (c .before .before .before .args .b))) (c .before .before .before .args .low) (c .before .before .before .args .high))) (omega arith), omega (arith, count-bound _ _ _ (c .before .loop .inv .1)))
 
 pub blocks-spec : {M : Type 1} → statement M
 blocks-spec =
     tie.close
-    (tie.spec
-    Inv-loop
-    μ-loop
-    loop-holds
-    add-m
-    lies-requires
-    add-n
-    loop-less
-    loop-again
-    loop-less-2
-    loop-again-2
-    returns)
+    (tie.spec Inv-loop μ-loop loop-holds add-m (λ c κs. search needs) add-n loop-less loop-again loop-less-2
+    loop-again-2 returns)

@@ -1,3 +1,4 @@
+-- `words::totals::installed` meets its contract.
 use mathlib.Core.Path.{_≡_, sym, ap, _∙_}
 use Prim.Native.Nat.{_-_, _≤_}
 use native.Mathlib.Omega.{arith}
@@ -10,10 +11,6 @@ use Rattle.paper.specs.Rules.{isThere, present}
 use borrow.Author.Needs.{needs}
 use Rattle.words.proofs.totals.installed.Statement.{statement}
 use Rattle.words.proofs.totals.installed.Tie as tie
-use Rattle.words.proofs.totals.installed.Reads as reads
-use Rattle.words.proofs.totals.installed.Lts as lts
-use Rattle.board.proofs.records.Task.present.Reads as present-reads
-use Rattle.board.proofs.words.task_meant.Reads as task-meant-reads
 
 abbrev Inv-loop : tie.InvT-loop
 Inv-loop b k₀ n₀ k n = (k ≤ 32) × (n ≡ counted (present (boardOf small b)) k)
@@ -21,59 +18,32 @@ Inv-loop b k₀ n₀ k n = (k ≤ 32) × (n ≡ counted (present (boardOf small 
 abbrev μ-loop : tie.MeasureT-loop
 μ-loop b k₀ n₀ k n = 32 - k
 
--- src/totals.rt:18:5
 loop-holds : tie.Need-loop-holds Inv-loop μ-loop
 loop-holds c = (omega arith, count-starts (present (boardOf small (now (c .before .args .b)))))
 
--- src/totals.rt:19:9
 add-k : tie.Need-add-k Inv-loop μ-loop
 add-k c = omega arith
 
--- src/totals.rt:20:13
-task-meant-requires : tie.Need-task-meant-requires Inv-loop μ-loop
-task-meant-requires c κs = search needs
-
--- src/totals.rt:21:12
-present-requires : tie.Need-present-requires Inv-loop μ-loop
-present-requires c κs = search needs
-
--- src/totals.rt:22:13
 add-n : tie.Need-add-n Inv-loop μ-loop
 add-n c = omega (arith, count-bound _ _ _ (c .before .before .before .before .loop .inv .1))
 
--- src/totals.rt:18:5
 loop-less : tie.Need-loop-less Inv-loop μ-loop
 loop-less c = omega arith
 
--- src/totals.rt:18:5
 loop-again : tie.Need-loop-again Inv-loop μ-loop
 loop-again c = (omega arith, count-yes _ _ _ (c .before .before .before .before .loop .inv .1) (sym (c .before .present .ensures ∙ ap isThere (c .before .before .task-meant .ensures)) ∙ c .if1 .taken))
 
--- src/totals.rt:18:5
 loop-less-2 : tie.Need-loop-less-2 Inv-loop μ-loop
 loop-less-2 c = omega arith
 
--- src/totals.rt:18:5
 loop-again-2 : tie.Need-loop-again-2 Inv-loop μ-loop
 loop-again-2 c = (omega arith, count-no _ _ _ (c .before .before .before .before .loop .inv .1) (sym (c .before .present .ensures ∙ ap isThere (c .before .before .task-meant .ensures)) ∙ c .if1 .left))
 
--- src/totals.rt:13:1
 returns : tie.Need-returns Inv-loop μ-loop
 returns c = c .before .loop .inv .1 ∙ ap (counted (present (boardOf small (now (c .before .before .before .args .b))))) (omega arith)
 
 pub installed-spec : {M : Type 1} → statement M
 installed-spec =
     tie.close
-    (tie.spec
-    Inv-loop
-    μ-loop
-    loop-holds
-    add-k
-    task-meant-requires
-    present-requires
-    add-n
-    loop-less
-    loop-again
-    loop-less-2
-    loop-again-2
-    returns)
+    (tie.spec Inv-loop μ-loop loop-holds add-k (λ c κs. search needs) (λ c κs. search needs) add-n loop-less loop-again
+    loop-less-2 loop-again-2 returns)
