@@ -1,6 +1,6 @@
 //! The cases of the repository's `tests/cases` through the methods: what C and the proved program answer, this crate answers.
 //!
-//! A case is the length as a word, a call of nine bytes (kind, three words, STAT, PRIO; kind 0 checks the board, kind 20 makes it
+//! A case is the length as a word, a call of nine bytes (kind, three words, STAT, PRIO; kind 0 checks the board, kind 254 makes it
 //! fresh) and the board. Its answer is a line: refusal, value, running, delivered, and each byte that has changed.
 use station::{Answer, Board, MsgNo, Prio, Status, TaskNo};
 use std::{fmt::Write, path::Path, process::Command};
@@ -63,7 +63,7 @@ fn answer_to(call: &[u8], board: &mut Board<&mut [u8]>) -> Option<String> {
         17 => told(board.receive_and_wait()),
         18 => told(board.cancel_message(m, r)),
         19 => told(board.wait_for_interrupt()),
-        20 => told(board.make_fresh()),
+        254 => told(board.make_fresh()),
         _ => return None,
     })
 }

@@ -7,6 +7,7 @@ import random
 import sys
 
 TASKS, MESSAGES = 32, 128
+CHECK, FRESH, NO_CALLS = 0, 254, (20, 21, 22, 64, 128, 253, 255)
 WAIT, IWAT, BIT5, INTQ, DEBUG, MROB, MHBS, TCBB = 128, 64, 32, 16, 8, 4, 2, 1
 
 
@@ -234,16 +235,19 @@ def main(cases_file, answers_file):
                 assert min(found, default=0) == rule, (rule, found)
                 alone.update(found if len(found) < 2 else ())
             if found:
-                emit(b, 0, "2 0 0 0")
+                emit(b, CHECK, "2 0 0 0")
             else:
                 order = walk(b, b[0], lambda k: task(k) + 2, {k for k in range(1, 33) if b[task(k)]}, lambda k: b[task(k) + 1] >> 1)
-                emit(b, 0, "0 0 %d 0" % running(b, order))
+                emit(b, CHECK, "0 0 %d 0" % running(b, order))
         for n in (0, 1, 4, 1475, 1477, 2854, 4000):         # wrong lengths
-            emit(bytes(n), 0, "1 0 0 0")
-            emit(bytes([7]) * n, 20, "1 0 0 0")
+            emit(bytes(n), CHECK, "1 0 0 0")
+            emit(bytes([7]) * n, FRESH, "1 0 0 0")
         mended = bytes([0xA5]) * 1476                       # fresh mends any board
-        emit(mended, 20, "0 0 0 0" + "".join(" %d=0" % i for i in range(1476)))
-        emit(bytes(1476), 20, "0 0 0 0")
+        emit(mended, FRESH, "0 0 0 0" + "".join(" %d=0" % i for i in range(1476)))
+        emit(bytes(1476), FRESH, "0 0 0 0")
+        for kind in NO_CALLS:                               # no call, before the board is looked at
+            for b in (sound(), mended, bytes(1475)):
+                emit(b, kind, "255 0 0 0")
     assert alone == set(range(1, 8))
 
 

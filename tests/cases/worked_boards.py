@@ -5,7 +5,7 @@ usage: worked_boards.py CASES ANSWERS   (a case: length word, call of 9 bytes, b
 import struct
 import sys
 
-INSTALL, POST, CANCEL_TASK = 1, 2, 4
+INSTALL, POST, CANCEL_TASK, FRESH = 1, 2, 4, 254
 TAKE_MESSAGE = [6, 7, 8, 9, 10, 11, 12, 13, 14, 15, 18]
 TAKE_RECEIVER = [8, 9, 12, 13, 18]
 
@@ -23,7 +23,7 @@ def cases():
     for kind in TAKE_MESSAGE:
         for m in (0, 129):
             yield board, kind, (m, 1, 0), 4
-    for kind in range(21):
+    for kind in (*range(20), FRESH):
         for wrong in (board[:-1], board + b"\0"):
             yield wrong, kind, (1, 1, 0), 1
     for kind in TAKE_RECEIVER:

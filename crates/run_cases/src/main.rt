@@ -1,5 +1,5 @@
 // PROGRAM. Cases from standard input, one after the other: the length of the board as a word, a call of nine bytes (kind, three words, STAT,
-// PRIO; kind 0 checks the board, kind 20 makes it fresh), and the board. For each it writes a line: refusal number, value, running and
+// PRIO; kind 0 checks the board, kind 254 makes it fresh), and the board. For each it writes a line: refusal number, value, running and
 // delivered, and then each byte of the board that changed, as place=value. So any other maker's answers can be compared with ours as text.
 ghost use Prim.Native.Nat.{_<_};
 use libc::STDIN_FILENO;
@@ -90,7 +90,7 @@ fn answer_to(kind: u8, asked: Asked, board: &mut [u8]) {
         print_answer(station::check(board));
         return;
     }
-    if kind == 20 {
+    if kind == 254 {
         print_answer(station::fresh(board));
         return;
     }

@@ -8,33 +8,33 @@ use crate::{check, fresh, step, Answer, Call};
 /// The kind that checks a board.
 pub const CHECK: u8 = 0;
 /// The kind that makes a fresh board.
-pub const FRESH: u8 = 20;
+pub const FRESH: u8 = 254;
 /// The number given for a kind that is no call.
 pub const NO_CALL: u8 = 255;
 
-/// The kinds by number.
-pub const KIND_NAMES: [&str; 21] = [
-    "check",
-    "install",
-    "post interrupt",
-    "find",
-    "cancel task",
-    "claim",
-    "prepare",
-    "release",
-    "send",
-    "send and wait",
-    "resend",
-    "resend and wait",
-    "forward",
-    "forward and wait",
-    "return",
-    "return and wait",
-    "receive",
-    "receive and wait",
-    "cancel message",
-    "wait for interrupt",
-    "fresh",
+/// The kinds that are something, with their names.
+pub const KINDS: [(u8, &str); 21] = [
+    (CHECK, "check"),
+    (1, "install"),
+    (2, "post interrupt"),
+    (3, "find"),
+    (4, "cancel task"),
+    (5, "claim"),
+    (6, "prepare"),
+    (7, "release"),
+    (8, "send"),
+    (9, "send and wait"),
+    (10, "resend"),
+    (11, "resend and wait"),
+    (12, "forward"),
+    (13, "forward and wait"),
+    (14, "return"),
+    (15, "return and wait"),
+    (16, "receive"),
+    (17, "receive and wait"),
+    (18, "cancel message"),
+    (19, "wait for interrupt"),
+    (FRESH, "fresh"),
 ];
 
 const REQUEST_LEN: usize = 9;
@@ -60,7 +60,7 @@ impl Request {
     /// The request in words.
     pub fn in_words(&self) -> String {
         let Request { kind, a, b, c, stat, prio } = self;
-        let Some(name) = KIND_NAMES.get(usize::from(*kind)) else {
+        let Some((_, name)) = KINDS.iter().find(|(known, _)| known == kind) else {
             return format!("kind {kind}, which is no call");
         };
         match kind {

@@ -33,7 +33,7 @@ fn aside(history: &History, random: &mut Random) -> Case {
         0..60 => damaged(history, random),
         60..85 => Case { request: wild(random), board },
         85..92 => wrong_length(history, random),
-        92..96 => Case { request: Request { kind: 20 + random.upto(235) as u8, ..wild(random) }, board },
+        92..96 => Case { request: Request { kind: 20 + random.below(236) as u8, ..wild(random) }, board },
         96..98 => Case { request: Request { kind: FRESH, ..wild(random) }, board },
         _ => Case { request: Request { kind: CHECK, ..wild(random) }, board },
     }

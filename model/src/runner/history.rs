@@ -1,6 +1,6 @@
 //! Calls that fit a board, and a board that grows by them.
 
-use super::case::Request;
+use super::case::{Request, KINDS};
 use super::random::Random;
 use crate::board::{word, Board, MsgNo, Status, TaskNo, BOARD_LEN, MESSAGES, SENDERS_PRIORITY, TASKS};
 use crate::check::running;
@@ -233,7 +233,7 @@ impl History {
 /// A request of any kind with any arguments.
 pub fn wild(random: &mut Random) -> Request {
     Request {
-        kind: random.below(21) as u8,
+        kind: random.pick(&KINDS).0,
         a: random.word(),
         b: random.word(),
         c: random.word(),

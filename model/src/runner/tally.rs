@@ -2,11 +2,9 @@
 
 use std::fmt;
 
-use super::case::{Case, Reply, CHECK, FRESH, KIND_NAMES, NO_CALL};
+use super::case::{Case, Reply, KINDS, NO_CALL};
 use crate::board::{Board, TaskNo, TASKS};
 use crate::broken_rule;
-
-const KINDS: usize = KIND_NAMES.len();
 
 /// The highest refusal that a board can get: number 15 needs a board that passes and yet has MHBS over an empty queue.
 const LAST_REFUSAL: usize = 14;
@@ -16,8 +14,8 @@ const LAST_REFUSAL: usize = 14;
 pub struct Tally {
     /// How many cases.
     pub cases: usize,
-    accepted: [usize; KINDS],
-    refused: [usize; KINDS],
+    accepted: [usize; 256],
+    refused: [usize; 256],
     refusals: [usize; 256],
     rules: [usize; 8],
     longest_queue: usize,
@@ -28,8 +26,8 @@ impl Default for Tally {
     fn default() -> Tally {
         Tally {
             cases: 0,
-            accepted: [0; KINDS],
-            refused: [0; KINDS],
+            accepted: [0; 256],
+            refused: [0; 256],
             refusals: [0; 256],
             rules: [0; 8],
             longest_queue: 0,
@@ -43,10 +41,8 @@ impl Tally {
     pub fn count(&mut self, case: &Case, reply: &Reply) {
         self.cases += 1;
         let refusal = reply.refusal();
-        if let Some(kind) = Some(usize::from(case.request.kind)).filter(|kind| *kind < KINDS) {
-            let counts = if refusal == 0 { &mut self.accepted } else { &mut self.refused };
-            counts[kind] += 1;
-        }
+        let counts = if refusal == 0 { &mut self.accepted } else { &mut self.refused };
+        counts[usize::from(case.request.kind)] += 1;
         self.refusals[usize::from(refusal)] += 1;
         match (refusal, broken_rule(&case.board)) {
             (2, Some(rule)) => self.rules[usize::from(rule.number())] += 1,
@@ -80,8 +76,8 @@ impl Tally {
     /// What should have been seen and was not.
     pub fn missing(&self) -> Vec<String> {
         let unseen = |counts: &[usize], number: &usize| counts[*number] == 0;
-        let all_kinds = usize::from(CHECK)..=usize::from(FRESH);
-        let calls = all_kinds.filter(|kind| unseen(&self.accepted, kind)).map(|kind| format!("{} accepted", KIND_NAMES[kind]));
+        let never = KINDS.iter().filter(|(kind, _)| unseen(&self.accepted, &usize::from(*kind)));
+        let calls = never.map(|(_, name)| format!("{name} accepted"));
         let numbers = (1..=LAST_REFUSAL).chain([NO_CALL.into()]);
         let refusals = numbers.filter(|number| unseen(&self.refusals, number)).map(|number| format!("refusal {number}"));
         let rules = (1..=7).filter(|rule| unseen(&self.rules, rule)).map(|rule| format!("R{rule} broken first"));
@@ -91,9 +87,10 @@ impl Tally {
 
 impl fmt::Display for Tally {
     fn fmt(&self, f: &mut fmt::Formatter) -> fmt::Result {
-        writeln!(f, "{:<20} {:>9} {:>9}", "call", "accepted", "refused")?;
-        for (kind, name) in KIND_NAMES.iter().enumerate() {
-            writeln!(f, "{kind:>2} {name:<17} {:>9} {:>9}", self.accepted[kind], self.refused[kind])?;
+        writeln!(f, "{:<21} {:>9} {:>9}", "call", "accepted", "refused")?;
+        for (kind, name) in KINDS {
+            let (accepted, refused) = (self.accepted[usize::from(kind)], self.refused[usize::from(kind)]);
+            writeln!(f, "{kind:>3} {name:<17} {accepted:>9} {refused:>9}")?;
         }
         let seen = |counts: &[usize], numbers: &mut dyn Iterator<Item = usize>, mark: &str| {
             numbers.map(|number| format!("{mark}{number}: {}", counts[number])).collect::<Vec<_>>().join("  ")
