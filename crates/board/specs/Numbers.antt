@@ -2,6 +2,8 @@
 --   small            the board of document 01: 32 tasks, 128 messages
 --   outside last n   n is 0 or above the last number
 --   taskMeant z w    the task that the word w means on a board of size z, if any; messageMeant likewise
+--   numberOfTask t   its number, 0 for no task; numberOfMessage likewise
+--   onBoard last w   w itself where it is a number up to the last, else 0
 -- Assumes nothing.
 use mathlib.Core.Bool.{Bool, cond, _||_}
 use Prim.Native.Nat.{ℕ}
@@ -28,3 +30,14 @@ taskMeant z w = cond (outside (z .tasks) w) NoTask (Task (record { 0 = w }))
 
 abbrev pub messageMeant : Size → ℕ → MessageMeant
 messageMeant z w = cond (outside (z .messages) w) NoMessage (Message (record { 0 = w }))
+
+abbrev pub numberOfTask : TaskMeant → ℕ
+numberOfTask (Task k) = k .0
+numberOfTask NoTask = 0
+
+abbrev pub numberOfMessage : MessageMeant → ℕ
+numberOfMessage (Message m) = m .0
+numberOfMessage NoMessage = 0
+
+abbrev pub onBoard : ℕ → ℕ → ℕ
+onBoard last w = cond (outside last w) 0 w

@@ -1,0 +1,72 @@
+-- What inner steps answer, by the paper's tables of refusals. Contracts of code cite this file; no reader needs to believe it.
+--   heldOf z b c w         c and the message w, or the lowest of 3, 4 and 5 that applies
+--   presentMeant z b w     the task w, unless 6 applies
+--   Stored                 what a body comes to: its value, whether who is ready may have changed, and the bytes
+--   bodyBy v d             a body with this verdict: done, or stopped
+--   bytesBy v l after      the bytes with this verdict: those afterwards, or those before
+--   Reply, Makes           what an inner step answers and leaves; a contract's one clause
+-- Assumes nothing.
+use mathlib.Core.Path.{_≡_}
+use mathlib.Core.Bool.{Bool, true, false, cond, not, _||_}
+use mathlib.Core.List.{List, [], _∷_}
+use Prim.Native.Nat.{ℕ}
+use Rattle.board.specs.declared.numbers.Size.{Size}
+use Rattle.board.specs.declared.numbers.TaskNo.{TaskNo}
+use Rattle.board.specs.declared.numbers.MsgNo.{MsgNo}
+use Rattle.board.specs.declared.numbers.TaskMeant.{TaskMeant}
+use Rattle.board.specs.declared.numbers.TaskMeant.the-variants.{Task, NoTask}
+use Rattle.board.specs.Numbers.{outside, taskNo}
+use Rattle.board.specs.Board.{Board}
+use Rattle.paper.specs.declared.answer.Refusal.{Refusal}
+use Rattle.paper.specs.Rules.{present}
+use Rattle.paper.specs.Refusals.{no3, no4, no5, Verdict, Go, Stop, lowest}
+use Rattle.stores.specs.declared.Held.{Held}
+use Rattle.stores.specs.declared.Held.the-variants as held
+use Rattle.stores.specs.declared.Body.{Body}
+use Rattle.stores.specs.declared.Body.the-variants.{Done, Stopped}
+
+-- ---- who and which
+abbrev pub heldBy : Verdict → ℕ → ℕ → Held
+heldBy Go c m = held.By (taskNo c) (record { 0 = m })
+heldBy (Stop q) c m = held.Not q
+
+abbrev pub heldOf : Size → Board → ℕ → ℕ → Held
+heldOf z b c w = heldBy (lowest (no3 c ∷ no4 z w ∷ no5 b c w ∷ [])) c w
+
+abbrev pub presentMeant : Size → Board → ℕ → TaskMeant
+presentMeant z b w = cond (outside (z .tasks) w || not (present b w)) NoTask (Task (taskNo w))
+
+-- ---- a body
+pub record Stored : Type 0 where
+  pub value : ℕ
+  pub stirs : Bool
+  pub after : List ℕ
+
+-- who is ready may have changed; nobody's status and no link of a task has
+abbrev pub leaves : ℕ → List ℕ → Stored
+leaves v l = record { value = v; stirs = true; after = l }
+
+abbrev pub rests : ℕ → List ℕ → Stored
+rests v l = record { value = v; stirs = false; after = l }
+
+-- ---- by a verdict
+abbrev pub bodyBy : Verdict → Stored → Body
+bodyBy Go d = Done (d .value) (d .stirs)
+bodyBy (Stop q) d = Stopped q
+
+abbrev pub bytesBy : Verdict → List ℕ → List ℕ → List ℕ
+bytesBy Go l after = after
+bytesBy (Stop q) l after = l
+
+-- ---- contracts
+pub record Reply (A : Type 0) : Type 0 where
+  pub answer : A
+  pub after : List ℕ
+
+pub record Makes {A : Type 0} (a : A) (l : List ℕ) (o : Reply A) : Type 0 where
+  pub answers : a ≡ o .answer
+  pub leaves : l ≡ o .after
+
+-- a body with this verdict on the bytes l
+abbrev pub replyBy : Verdict → List ℕ → Stored → Reply Body
+replyBy v l d = record { answer = bodyBy v d; after = bytesBy v l (d .after) }

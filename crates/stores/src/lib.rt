@@ -1,0 +1,18 @@
+// CODE. What a call has come to before dispatch, as enums, and beneath them (specs/) what code stores for each call, as one list of bytes
+// after another. Contracts of code cite this crate; that the stores come to document 01's effects is proved above it (stored), so no
+// reader needs to believe it.
+use board::numbers::MsgNo;
+use board::numbers::TaskNo;
+use paper::answer::Refusal;
+
+// The running task and a message that it holds.
+pub enum Held {
+    By { c: TaskNo, m: MsgNo },
+    Not(Refusal),
+}
+
+// A call's body was done, with this value; stirs says that who is ready may have changed.
+pub enum Body {
+    Done { value: u16, stirs: bool },
+    Stopped(Refusal),
+}
