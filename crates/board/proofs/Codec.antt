@@ -125,7 +125,7 @@ pub place-nowhere : (z : Size) (p : ℕ) → p ≢ 0 → outside (z .tasks) p �
 place-nowhere z p n o f = rw (f, o, ne-eqb p 0 n)
 
 -- the byte 64 + k says queued at task k
-pub place-queued : (z : Size) (k : ℕ) → 1 ≤ k → k ≤ z .tasks → z .tasks ≤ 64 → placeOf z (64 + k) ≡ QueuedAt (taskNo k)
+pub place-queued : (z : Size) (k : ℕ) → 1 ≤ k → k ≤ z .tasks → z .tasks ≤ 63 → placeOf z (64 + k) ≡ QueuedAt (taskNo k)
 place-queued z k h l m =
     place-receiver z (64 + k) k (λ (e : 64 + k ≡ 0). omega arith) (outside-above (z .tasks) (64 + k) (omega arith)) (omega arith)
     (within-outside (z .tasks) k h l)
@@ -178,10 +178,12 @@ bytes-board z l e h =
     let ms = join-cut messageOf messageBytes 8 message-whole (z .messages) (drop t l) (omega arith) (small-drop t l h) in
     let ps = join-cut (placeIn z) placeBytes 1 (place-piece z) (z .messages) (drop m l) (omega arith) (small-drop m l h)
     ∙ take-all (1 * z .messages) (drop m l) (omega arith) in
-    (λ i. getD l 0 0 ∷ take 3 (drop 1 l) ++ (ts i ++ (ms i ++ ps i)))
-    ∙ ap (λ (r : List ℕ). getD l 0 0 ∷ take 3 (drop 1 l) ++ (take (10 * z .tasks) (drop 4 l) ++ r)) (glue (8 * z .messages) t l)
-    ∙ ap (λ (r : List ℕ). getD l 0 0 ∷ take 3 (drop 1 l) ++ r) (glue (10 * z .tasks) 4 l)
-    ∙ ap (λ (r : List ℕ). getD l 0 0 ∷ r) (glue 3 1 l)
+    let two : List ℕ → List ℕ = λ r. getD l 0 0 ∷ getD l 1 0 ∷ r in
+    (λ i. two (take 2 (drop 2 l) ++ (ts i ++ (ms i ++ ps i))))
+    ∙ ap (λ (r : List ℕ). two (take 2 (drop 2 l) ++ (take (10 * z .tasks) (drop 4 l) ++ r))) (glue (8 * z .messages) t l)
+    ∙ ap (λ (r : List ℕ). two (take 2 (drop 2 l) ++ r)) (glue (10 * z .tasks) 4 l)
+    ∙ ap two (glue 2 2 l)
+    ∙ ap (λ (r : List ℕ). getD l 0 0 ∷ r) (sym (drop-cons l 1 0 (omega arith)))
     ∙ sym (drop-cons l 0 0 (omega arith))
 
 -- ---- as many records as the board has

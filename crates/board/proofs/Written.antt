@@ -17,7 +17,7 @@ use Rattle.board.specs.declared.places.Place.the-variants.{Free, HeldBy,
 use Rattle.board.specs.Numbers.{taskNo}
 use Rattle.board.specs.Records.{taskOf, taskBytes, messageOf, messageBytes}
 use Rattle.board.specs.Places.{placeOf, placeByte, placeIn, placeBytes}
-use Rattle.board.specs.Board.{Area, total, taskArea, messageArea, placeArea, cut, pieces, boardOf, put}
+use Rattle.board.specs.Board.{Area, total, taskArea, messageArea, placeArea, cut, pieces, board, boardOf, put}
 use Rattle.board.specs.Board.{withFirst, withTask, withMessage, withPlace}
 use Rattle.board.specs.Writes.{putIn, putFirst, putTask, putMessage, putPlace}
 use Rattle.board.proofs.Numbered.{map-put}
@@ -31,21 +31,27 @@ record-put : {A : Type 0} (a : Area) (f : List ℕ → A) (l : List ℕ) (k : �
     → map f (pieces a (putIn a l k vs)) ≡ put (map f (pieces a l)) k (f vs)
 record-put a f l k vs h v = ap (map f) (pieces-put a l k vs h v) ∙ map-put f (pieces a l) k vs
 
-rest-of-four : (l : List ℕ) → take 3 (drop 1 l) ≡ drop 1 (take 4 l)
+rest-of-four : (l : List ℕ) → take 2 (drop 2 l) ≡ drop 2 (take 4 l)
 rest-of-four [] = refl
-rest-of-four (x ∷ l) = refl
+rest-of-four (x ∷ []) = refl
+rest-of-four (x ∷ y ∷ l) = refl
 
--- byte 0 and the three zeros lie before every area
+-- bytes 0 to 3 lie before every area
 head-put : (a : Area) (l : List ℕ) (k : ℕ) (vs : List ℕ) → 4 ≤ a .base
-    → (getD (putIn a l k vs) 0 0 ≡ getD l 0 0) × (take 3 (drop 1 (putIn a l k vs)) ≡ take 3 (drop 1 l))
+    → let d = putIn a l k vs in
+    (getD d 0 0 ≡ getD l 0 0) × (getD d 1 0 ≡ getD l 1 0) × (take 2 (drop 2 d) ≡ take 2 (drop 2 l))
 head-put a l k vs h =
     let d : List ℕ = putIn a l k vs in
-    let e : take 4 d ≡ take 4 l = take-putIn a 4 l k vs h in (
-      sym (getD-take 4 d 0 0 (lit< tt)) ∙ ap (λ (r : List ℕ). getD r 0 0) e ∙ getD-take 4 l 0 0 (lit< tt),
-      rest-of-four d ∙ ap (drop 1) e ∙ sym (rest-of-four l),
-    )
+    let e : take 4 d ≡ take 4 l = take-putIn a 4 l k vs h in
+    let byte : (i : ℕ) → i < 4 → getD d i 0 ≡ getD l i 0 =
+    λ i w. sym (getD-take 4 d i 0 w) ∙ ap (λ (r : List ℕ). getD r i 0) e ∙ getD-take 4 l i 0 w in
+    (byte 0 (lit< tt), byte 1 (lit< tt), rest-of-four d ∙ ap (drop 2) e ∙ sym (rest-of-four l))
 
--- and every area lies behind byte 0
+-- byte 1 and every area lie behind byte 0
+first-other : (l : List ℕ) (v : ℕ) → getD (set l 0 v) 1 0 ≡ getD l 1 0
+first-other [] v = refl
+first-other (x ∷ l) v = refl
+
 pieces-first : (a : Area) (l : List ℕ) (v : ℕ) → 1 ≤ a .base → pieces a (set l 0 v) ≡ pieces a l
 pieces-first a l v h = ap (cut (a .count) (a .stride)) (drop-set-lt (a .base) l 0 v h)
 
@@ -54,13 +60,11 @@ module _ (z : Size) (l : List ℕ) where
   -- byte 0
   pub board-put-first : (v : ℕ) → 1 ≤ length l → boardOf z (putFirst l v) ≡ withFirst (boardOf z l) v
   board-put-first v h =
-      λ i. record {
-        first = getD-set-same l 0 v 0 h i;
-        zeros = take 3 (drop-set-lt 1 l 0 v (lit< tt) i);
-        tasks = map taskOf (pieces-first (taskArea z) l v (omega arith) i);
-        messages = map messageOf (pieces-first (messageArea z) l v (omega arith) i);
-        places = map (placeIn z) (pieces-first (placeArea z) l v (omega arith) i);
-      }
+      let o = first-other l v in
+      let t = ap (map taskOf) (pieces-first (taskArea z) l v (omega arith)) in
+      let m = ap (map messageOf) (pieces-first (messageArea z) l v (omega arith)) in
+      let p = ap (map (placeIn z)) (pieces-first (placeArea z) l v (omega arith)) in
+      λ i. board (getD-set-same l 0 v 0 h i) (o i) (take 2 (drop-set-lt 2 l 0 v (lit< tt) i)) (t i) (m i) (p i)
 
   module _ (e : length l ≡ total z) where
     -- a task
@@ -72,7 +76,7 @@ module _ (z : Size) (l : List ℕ) where
         let w = record-put a taskOf l k vs (omega arith) refl ∙ ap (put (boardOf z l .tasks) k) (task-back t) in
         let m = ap (map messageOf) (pieces-behind a (messageArea z) l k vs refl (omega arith)) in
         let p = ap (map (placeIn z)) (pieces-behind a (placeArea z) l k vs refl (omega arith)) in
-        λ i. record { first = h .0 i; zeros = h .1 i; tasks = w i; messages = m i; places = p i }
+        λ i. board (h .0 i) (h .1 i) (h .2 i) (w i) (m i) (p i)
 
     -- a message
     pub board-put-message : (m : ℕ) (r : Message) → boardOf z (putMessage z l m r) ≡ withMessage (boardOf z l) m r
@@ -83,7 +87,7 @@ module _ (z : Size) (l : List ℕ) where
         let t = ap (map taskOf) (pieces-before a (taskArea z) l m vs (omega arith)) in
         let w = record-put a messageOf l m vs (omega arith) refl ∙ ap (put (boardOf z l .messages) m) (message-back r) in
         let p = ap (map (placeIn z)) (pieces-behind a (placeArea z) l m vs refl (omega arith)) in
-        λ i. record { first = h .0 i; zeros = h .1 i; tasks = t i; messages = w i; places = p i }
+        λ i. board (h .0 i) (h .1 i) (h .2 i) (t i) (w i) (p i)
 
     -- the place that the stored byte says
     pub board-put-place : (m : ℕ) (p : Place)
@@ -95,14 +99,14 @@ module _ (z : Size) (l : List ℕ) where
         let t = ap (map taskOf) (pieces-before a (taskArea z) l m vs (omega arith)) in
         let r = ap (map messageOf) (pieces-before a (messageArea z) l m vs (omega arith)) in
         let w = record-put a (placeIn z) l m vs (omega arith) refl in
-        λ i. record { first = h .0 i; zeros = h .1 i; tasks = t i; messages = r i; places = w i }
+        λ i. board (h .0 i) (h .1 i) (h .2 i) (t i) (r i) (w i)
 
     -- free
     pub board-put-free : (m : ℕ) → boardOf z (putPlace z l m Free) ≡ withPlace (boardOf z l) m Free
     board-put-free m = board-put-place m Free
 
     -- held by a task of the board
-    pub board-put-held : (m k : ℕ) → 1 ≤ k → k ≤ z .tasks → z .tasks ≤ 64
+    pub board-put-held : (m k : ℕ) → 1 ≤ k → k ≤ z .tasks → z .tasks ≤ 63
         → boardOf z (putPlace z l m (HeldBy (taskNo k))) ≡ withPlace (boardOf z l) m (HeldBy (taskNo k))
     board-put-held m k h n s =
         let b : k < 256 = omega arith in
@@ -110,7 +114,7 @@ module _ (z : Size) (l : List ℕ) where
         ∙ ap (withPlace (boardOf z l) m) (ap (placeOf z) (mod-eq-of-lt b) ∙ place-held z k h n)
 
     -- queued at a task of the board
-    pub board-put-queued : (m k : ℕ) → 1 ≤ k → k ≤ z .tasks → z .tasks ≤ 64
+    pub board-put-queued : (m k : ℕ) → 1 ≤ k → k ≤ z .tasks → z .tasks ≤ 63
         → boardOf z (putPlace z l m (QueuedAt (taskNo k))) ≡ withPlace (boardOf z l) m (QueuedAt (taskNo k))
     board-put-queued m k h n s =
         let b : 64 + k < 256 = omega arith in

@@ -1,8 +1,9 @@
 -- The board: document 01, 'What the board holds'. A reader must believe this file.
 --   total z            the bytes of a board of size z; 1,476 for the small one
 --   boardOf z l        the bytes l read once as a board of records; bytesOf b the board written back
+--   board first ..     the board of these bytes and records; withFirst, withTasks, withMessages, withPlaces: b with that field so
 --   task b k           task k, a record of zeros for 0 and numbers beyond the board; so message b m; place b m is then Free
---   withTask b k t     the board with task k so and nothing else changed; for 0 and beyond it is b itself; so the others
+--   withTask b k t     the board with task k so and nothing else changed; for 0 and beyond it is b itself; so withMessage, withPlace
 -- Assumes nothing.
 use mathlib.Core.List.{List, [], _∷_, _++_, map}
 use Prim.Native.Nat.{ℕ, zero, suc, _+_, _*_}
@@ -49,23 +50,31 @@ pieces a l = cut (a .count) (a .stride) (drop (a .base) l)
 -- ---- the board as records
 pub record Board : Type 0 where
   pub first : ℕ  -- byte 0: first task of the task queue, 0 if none
-  pub zeros : List ℕ  -- bytes 1 to 3
+  pub byte1 : ℕ  -- byte 1: zero by R1
+  pub zeros : List ℕ  -- bytes 2 and 3
   pub tasks : List Task
   pub messages : List Message
   pub places : List Place
 
-abbrev pub boardOf : Size → List ℕ → Board
-boardOf z l = record {
-  first = getD l 0 0;
-  zeros = take 3 (drop 1 l);
-  tasks = map taskOf (pieces (taskArea z) l);
-  messages = map messageOf (pieces (messageArea z) l);
-  places = map (placeIn z) (pieces (placeArea z) l);
+-- the one place where a board is put together
+abbrev pub board : ℕ → ℕ → List ℕ → List Task → List Message → List Place → Board
+board first byte1 zeros tasks messages places = record {
+  first = first;
+  byte1 = byte1;
+  zeros = zeros;
+  tasks = tasks;
+  messages = messages;
+  places = places;
 }
+
+abbrev pub boardOf : Size → List ℕ → Board
+boardOf z l =
+    board (getD l 0 0) (getD l 1 0) (take 2 (drop 2 l)) (map taskOf (pieces (taskArea z) l))
+    (map messageOf (pieces (messageArea z) l)) (map (placeIn z) (pieces (placeArea z) l))
 
 abbrev pub bytesOf : Board → List ℕ
 bytesOf b =
-    b .first ∷ b .zeros
+    b .first ∷ b .byte1 ∷ b .zeros
     ++ (join (map taskBytes (b .tasks)) ++ (join (map messageBytes (b .messages)) ++ join (map placeBytes (b .places))))
 
 -- ---- a record by its number; 0 is none
@@ -86,17 +95,25 @@ message b m = nth noMessage (b .messages) m
 abbrev pub place : Board → ℕ → Place
 place b m = nth Free (b .places) m
 
+-- ---- a board with one field changed
 abbrev pub withFirst : Board → ℕ → Board
-withFirst b k = record { first = k; zeros = b .zeros; tasks = b .tasks; messages = b .messages; places = b .places }
+withFirst b k = board k (b .byte1) (b .zeros) (b .tasks) (b .messages) (b .places)
 
+abbrev pub withTasks : Board → List Task → Board
+withTasks b l = board (b .first) (b .byte1) (b .zeros) l (b .messages) (b .places)
+
+abbrev pub withMessages : Board → List Message → Board
+withMessages b l = board (b .first) (b .byte1) (b .zeros) (b .tasks) l (b .places)
+
+abbrev pub withPlaces : Board → List Place → Board
+withPlaces b l = board (b .first) (b .byte1) (b .zeros) (b .tasks) (b .messages) l
+
+-- ---- and with one record changed
 abbrev pub withTask : Board → ℕ → Task → Board
-withTask b k t =
-    record { first = b .first; zeros = b .zeros; tasks = put (b .tasks) k t; messages = b .messages; places = b .places }
+withTask b k t = withTasks b (put (b .tasks) k t)
 
 abbrev pub withMessage : Board → ℕ → Message → Board
-withMessage b m r =
-    record { first = b .first; zeros = b .zeros; tasks = b .tasks; messages = put (b .messages) m r; places = b .places }
+withMessage b m u = withMessages b (put (b .messages) m u)
 
 abbrev pub withPlace : Board → ℕ → Place → Board
-withPlace b m p =
-    record { first = b .first; zeros = b .zeros; tasks = b .tasks; messages = b .messages; places = put (b .places) m p }
+withPlace b m p = withPlaces b (put (b .places) m p)

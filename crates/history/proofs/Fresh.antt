@@ -125,7 +125,8 @@ module _ (z : Size) where
   fresh-stands : Stands z b [] (λ k. [])
   fresh-stands = record {
     fits = fits-board z (blank z) fresh-bytes;
-    zeros = zeros-take 3 (drop 1 (blank z)) (zeros-drop 1 (blank z) zeros);
+    byte1 = zeros-read (blank z) zeros 1;
+    zeros = zeros-take 2 (drop 2 (blank z)) (zeros-drop 2 (blank z) zeros);
     records = λ k d. inl (fresh-task k);
     linked = record {
       tasks = record {

@@ -18,7 +18,7 @@ use Rattle.board.specs.Numbers.{taskNo}
 use Rattle.board.specs.Status.{IWAT, has, number, stored}
 use Rattle.board.specs.Records.{noTask, taskWithLink}
 use Rattle.board.specs.Places.{isHeldBy}
-use Rattle.board.specs.Board.{Board, task, place, put, withTask}
+use Rattle.board.specs.Board.{Board, task, place, put, withFirst, withTasks, withTask}
 use Rattle.board.proofs.Numbered.{put-comm}
 use Rattle.paper.specs.declared.call.Call.the-variants.{CancelTask}
 use Rattle.paper.specs.Rules.{isThere, present, nextTask, nextMessage, emptyQueue, taskNumber}
@@ -41,7 +41,7 @@ link-task b x v k t n =
     ≡ put (put (b .tasks) k t) x (taskWithLink (task (withTask b k t) x) v) =
     put-comm (b .tasks) x k (taskWithLink (task b x) v) t n
     ∙ ap (λ (e : Task). put (put (b .tasks) k t) x (taskWithLink e v)) (sym (task-other b k x t n)) in
-    λ i. record { first = b .first; zeros = b .zeros; tasks = p i; messages = b .messages; places = b .places }
+    λ i. withTasks b (p i)
 
 relink-task : (b : Board) (q : List ℕ) (k : ℕ) (t : Task) → Out k q
     → withTask (relink linkTask b q) k t ≡ relink linkTask (withTask b k t) q
@@ -53,8 +53,7 @@ relink-task b (x ∷ q) k t o =
 -- the same comes of it, for a task that is none of the queue
 order-task : (b : Board) (q : List ℕ) (k : ℕ) (t : Task) → Out k q → withTask (withOrder b q) k t ≡ withOrder (withTask b k t) q
 order-task b q k t o =
-    λ i. let c = relink-task b q k t o i in
-    record { first = firstOf q; zeros = c .zeros; tasks = c .tasks; messages = c .messages; places = c .places }
+    λ i. withFirst (relink-task b q k t o i) (firstOf q)
 
 -- ---- cancel task
 module _ (z : Size) (b : Board) (q : List ℕ) (queues : ℕ → List ℕ) (a : Sizes z) (s : Stands z b q queues) (k : ℕ) where

@@ -20,7 +20,7 @@ use Rattle.board.specs.declared.places.Place.the-variants.{Free}
 use Rattle.board.specs.Numbers.{outside}
 use Rattle.board.specs.Records.{wordAt, taskOf, taskBytes, noTask, messageOf, messageBytes, noMessage}
 use Rattle.board.specs.Places.{placeOf, placeByte, placeIn, placeBytes}
-use Rattle.board.specs.Board.{Area, Board, taskArea, messageArea, placeArea, cut, join, pieces, boardOf, bytesOf, nth}
+use Rattle.board.specs.Board.{Area, Board, board, taskArea, messageArea, placeArea, cut, join, pieces, boardOf, bytesOf, nth}
 use Rattle.board.proofs.Numbered.{nth-map}
 use Rattle.board.proofs.Pieces.{outside-within, nth-outside, length-pieces, piece-byte}
 use Rattle.board.proofs.Codec.{Small, small-at, task-back, message-back, length-tasks, length-messages, length-places}
@@ -109,7 +109,7 @@ module _ (z : Size) (b : Board) (f : Fits z b) where
   long-places = length-records placeBytes 1 (λ p. refl) (b .places) ∙ ap (λ (n : ℕ). 1 * n) (f .places)
 
   behind-zeros : drop 4 (bytesOf b) ≡ ts ++ (ms ++ ps)
-  behind-zeros = drop-at (b .zeros) (ts ++ (ms ++ ps)) 3 (f .zeros)
+  behind-zeros = drop-at (b .zeros) (ts ++ (ms ++ ps)) 2 (f .zeros)
 
   behind-tasks : drop (4 + 10 * z .tasks) (bytesOf b) ≡ ms ++ ps
   behind-tasks =
@@ -127,7 +127,7 @@ module _ (z : Size) (b : Board) (f : Fits z b) where
   -- read again it is the same board
   pub board-bytes : boardOf z (bytesOf b) ≡ b
   board-bytes =
-      let zs = take-at (b .zeros) (ts ++ (ms ++ ps)) 3 (f .zeros) in
+      let zs = take-at (b .zeros) (ts ++ (ms ++ ps)) 2 (f .zeros) in
       let t = records-read taskBytes 10 (λ t. refl) taskOf noTask (b .tasks) (drop 4 (bytesOf b)) (ms ++ ps) (z .tasks) (f .tasks)
       behind-zeros (λ i. task-back (getD (b .tasks) i noTask)) in
       let m = records-read messageBytes 8 (λ r. refl) messageOf noMessage (b .messages) (drop (4 + 10 * z .tasks) (bytesOf b)) ps
@@ -135,7 +135,7 @@ module _ (z : Size) (b : Board) (f : Fits z b) where
       let p = records-read placeBytes 1 (λ p. refl) (placeIn z) Free (b .places)
       (drop (4 + 10 * z .tasks + 8 * z .messages) (bytesOf b)) [] (z .messages) (f .places) behind-messages
       (λ i. place-back (getD (b .places) i Free) (f .place (suc i))) in
-      λ i. record { first = b .first; zeros = zs i; tasks = t i; messages = m i; places = p i }
+      λ i. board (b .first) (b .byte1) (zs i) (t i) (m i) (p i)
 
   small-place : (p : Place) → FitsPlace z p → Small (placeBytes p)
   small-place p h = (omega arith, tt)
@@ -147,8 +147,11 @@ module _ (z : Size) (b : Board) (f : Fits z b) where
       (λ i. small-message (getD (b .messages) i noMessage) (f .message (suc i))) in
       let p = small-records placeBytes Free (b .places) (λ i. small-place (getD (b .places) i Free) (f .place (suc i))) in (
         f .first,
-        small-append (b .zeros) (ts ++ (ms ++ ps)) (small-zeros (b .zeros) h)
-            (small-append ts (ms ++ ps) t (small-append ms ps m p)),
+        (
+          f .byte1,
+          small-append (b .zeros) (ts ++ (ms ++ ps)) (small-zeros (b .zeros) h)
+              (small-append ts (ms ++ ps) t (small-append ms ps m p)),
+        ),
       )
 
   -- with R1 its bytes are bytes, and as many as the size says
@@ -223,7 +226,8 @@ module _ (z : Size) (l : List ℕ) (h : Bytes z l) where
   pub fits-board : Fits z (boardOf z l)
   fits-board = record {
     first = h .bytes 0;
-    zeros = length-take-le 3 (drop 1 l) (omega (arith, length-drop 1 l, h .long));
+    byte1 = h .bytes 1;
+    zeros = length-take-le 2 (drop 2 l) (omega (arith, length-drop 2 l, h .long));
     tasks = length-tasks z l;
     messages = length-messages z l;
     places = length-places z l;

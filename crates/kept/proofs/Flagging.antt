@@ -75,6 +75,7 @@ Flagged t = Flags (t .stat) (t .mptr ≡ 0)
 -- ---- R1 to R6 but for the flags of task k
 pub record StandsBut (z : Size) (b : Board) (order : List ℕ) (queues : ℕ → List ℕ) (k : ℕ) : Type 0 where
   pub fits : Fits z b
+  pub byte1 : b .byte1 ≡ 0
   pub zeros : All (λ x. x ≡ 0) (b .zeros)
   pub records : (j : ℕ) → Numbered (z .tasks) j → Lawful (task b j)
   pub linked : Linked z b order queues
@@ -86,6 +87,7 @@ module _ (z : Size) (b : Board) (order : List ℕ) (queues : ℕ → List ℕ) (
   pub stands-but : Stands z b order queues → StandsBut z b order queues k
   stands-but s = record {
     fits = s .fits;
+    byte1 = s .byte1;
     zeros = s .zeros;
     records = s .records;
     linked = s .linked;
@@ -97,6 +99,7 @@ module _ (z : Size) (b : Board) (order : List ℕ) (queues : ℕ → List ℕ) (
   pub but-stands : StandsBut z b order queues k → Flagged (task b k) → Stands z b order queues
   but-stands s f = record {
     fits = s .fits;
+    byte1 = s .byte1;
     zeros = s .zeros;
     records = s .records;
     linked = s .linked;
@@ -138,6 +141,7 @@ module _ (z : Size) (b : Board) (order : List ℕ) (queues : ℕ → List ℕ) (
     pub but-stat : StandsBut z b order queues k → StandsBut z (withTask b k (taskWithStat (task b k) s)) order queues k
     but-stat h = record {
       fits = fits-task z b (h .fits) k t (fits-new (h .fits .task k));
+      byte1 = h .byte1;
       zeros = h .zeros;
       records = λ j n. nth-cases Lawful noTask (b .tasks) k j t (λ e. inr (proper-new (proper-old h))) (h .records j n);
       linked = record {

@@ -15,7 +15,7 @@ use Rattle.board.specs.declared.records.Message.{Message}
 use Rattle.board.specs.declared.places.Place.{Place}
 use Rattle.board.specs.declared.places.Place.the-variants.{Free}
 use Rattle.board.specs.Records.{noTask, noMessage, taskWithStat, taskWithLink, withLink}
-use Rattle.board.specs.Board.{Board, nth, put, task, message, place, withTask, withMessage, withPlace}
+use Rattle.board.specs.Board.{Board, nth, put, task, message, place, withFirst, withTasks, withMessages, withPlaces, withTask, withMessage, withPlace}
 use Rattle.board.proofs.Numbered.{nth-put-other, nth-alike}
 use Rattle.paper.specs.Changes.{linkTask, linkMessage, withQueue, withOrder}
 use Rattle.kept.specs.Frames.{Frame}
@@ -37,8 +37,9 @@ module _ {ts ms q : List ℕ} {o : Bool} where
       → ((m : ℕ) → Out m ms → let r = nth noMessage l m in r ≡ withLink (message b m) (r .link))
       → ((m : ℕ) → Out m ms → Out m q → nth noMessage l m ≡ message b m)
       → ((m : ℕ) → Out m ms → nth Free p m ≡ place b m)
-      → Frame b (record { first = b .first; zeros = b .zeros; tasks = b .tasks; messages = l; places = p }) ts ms q o
+      → Frame b (withPlaces (withMessages b l) p) ts ms q o
   frame-mail b l p f g h = record {
+    byte1 = refl;
     zeros = refl;
     first = λ w. refl;
     tasks = λ k u. refl;
@@ -56,6 +57,7 @@ module _ {ts ms q : List ℕ} {o : Bool} where
   -- one change after another
   pub frame-then : {b d e : Board} → Frame b d ts ms q o → Frame d e ts ms q o → Frame b e ts ms q o
   frame-then {b} {d} {e} f g = record {
+    byte1 = g .byte1 ∙ f .byte1;
     zeros = g .zeros ∙ f .zeros;
     first = λ w. g .first w ∙ f .first w;
     tasks = λ k u. g .tasks k u ∙ ap (λ (t : Task). taskWithLink t (task e k .link)) (f .tasks k u);
@@ -77,6 +79,7 @@ module _ {ts ms q : List ℕ} where
       (t .link ≡ s .link) × (t .prio ≡ s .prio) × (t .sptr ≡ s .sptr) × (t .name ≡ s .name)
       → Frame b (withTask b k t) ts ms q false
   frame-task b k t i (l, p, s, n) = record {
+    byte1 = refl;
     zeros = refl;
     first = λ w. refl;
     tasks = λ j u.
@@ -134,8 +137,9 @@ module _ {ts ms q : List ℕ} where
   -- nothing but byte 0 and tasks changes
   frame-crew : (b : Board) (x : ℕ) (l : List Task)
       → ((k : ℕ) → Out k ts → let t = nth noTask l k in t ≡ taskWithLink (task b k) (t .link))
-      → Frame b (record { first = x; zeros = b .zeros; tasks = l; messages = b .messages; places = b .places }) ts ms q true
+      → Frame b (withFirst (withTasks b l) x) ts ms q true
   frame-crew b x l h = record {
+    byte1 = refl;
     zeros = refl;
     first = λ w. absurd (true≢false w);
     tasks = h;

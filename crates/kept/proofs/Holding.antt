@@ -51,6 +51,7 @@ module _ (z : Size) (b : Board) (order : List ℕ) (queues : ℕ → List ℕ) (
       → Stands z (withPlace b m p) order queues
   stands-place p u v f g = record {
     fits = fits-place z b (s .fits) m p f;
+    byte1 = s .byte1;
     zeros = s .zeros;
     records = s .records;
     linked = record {
@@ -102,6 +103,7 @@ module _ (z : Size) (b : Board) (order : List ℕ) (queues : ℕ → List ℕ) (
       pub stands-record : Stands z (withMessage b m r) order queues
       stands-record = record {
         fits = fits-message z b (s .fits) m r f;
+        byte1 = s .byte1;
         zeros = s .zeros;
         records = s .records;
         linked = record {
@@ -136,7 +138,7 @@ module _ (z : Size) (b : Board) (order : List ℕ) (queues : ℕ → List ℕ) (
   pub held-fits : (c : ℕ) → present b c ≡ true → FitsPlace z (HeldBy (taskNo c))
   held-fits c p =
       let n : Numbered (z .tasks) c = rw (s .fits .tasks) at (present-numbered b c p) in
-      let h : z .tasks ≤ 64 = a .tasks in
+      let h : z .tasks ≤ 63 = a .tasks in
       (omega arith, place-held z c (n .0) (n .1))
 
   -- a present task claims a message where one is free

@@ -136,6 +136,7 @@ module _ (z : Size) (b : Board) (order : List ℕ) (queues : ℕ → List ℕ) (
   pub stands-order : Stands z (withOrder (withTask b k t) q) q queues
   stands-order = record {
     fits = fits-relinked;
+    byte1 = relink-keeps (λ (e : Board). e .byte1) linkTask (λ e x y. refl) mid q ∙ s .byte1;
     zeros = subst (All (λ x. x ≡ 0)) (sym (relink-keeps (λ (e : Board). e .zeros) linkTask (λ e x y. refl) mid q)) (s .zeros);
     records = λ j n. lawful-relinked j (nth-cases Lawful noTask (b .tasks) k j t (λ e. lawful) (s .records j n));
     linked = record {

@@ -98,7 +98,7 @@ module _ (z : Size) (b : Board) (order : List ℕ) (queues : ℕ → List ℕ) (
   -- ---- the fields fit
   fits-before : Fits z (requeued b r q)
   fits-before =
-      requeued-fits z b r q (stands .fits) (all-of Word q (λ y i. omega (arith, member-numbered y i .1, sizes .words)))
+      requeued-fits z b r q (stands .fits) (all-of Word q (λ y i. omega (arith, member-numbered y i .1, sizes .links)))
 
   fits-after : Fits z after
   fits-after =
@@ -218,6 +218,7 @@ module _ (z : Size) (b : Board) (order : List ℕ) (queues : ℕ → List ℕ) (
   but-after : StandsBut z after order (changed queues r q) r
   but-after = record {
     fits = fits-after;
+    byte1 = stands .byte1;
     zeros = stands .zeros;
     records = λ k n. nth-cases Lawful noTask (b .tasks) r k receiver (λ e. lawful) (stands .records k n);
     linked = record { tasks = tasks-after; messages = λ k n. messages-after k n (ℕ-discrete k r) };

@@ -121,6 +121,7 @@ module _ (z : Size) (b : Board) (f : Fits z b) where
   pub fits-first : (x : ℕ) → Byte x → Fits z (withFirst b x)
   fits-first x h = record {
     first = h;
+    byte1 = f .byte1;
     zeros = f .zeros;
     tasks = f .tasks;
     messages = f .messages;
@@ -134,6 +135,7 @@ module _ (z : Size) (b : Board) (f : Fits z b) where
   pub fits-task : (k : ℕ) (t : Task) → FitsTask t → Fits z (withTask b k t)
   fits-task k t h = record {
     first = f .first;
+    byte1 = f .byte1;
     zeros = f .zeros;
     tasks = length-put (b .tasks) k t ∙ f .tasks;
     messages = f .messages;
@@ -147,6 +149,7 @@ module _ (z : Size) (b : Board) (f : Fits z b) where
   pub fits-message : (m : ℕ) (r : Message) → FitsMessage r → Fits z (withMessage b m r)
   fits-message m r h = record {
     first = f .first;
+    byte1 = f .byte1;
     zeros = f .zeros;
     tasks = f .tasks;
     messages = length-put (b .messages) m r ∙ f .messages;
@@ -160,6 +163,7 @@ module _ (z : Size) (b : Board) (f : Fits z b) where
   pub fits-place : (m : ℕ) (p : Place) → FitsPlace z p → Fits z (withPlace b m p)
   fits-place m p h = record {
     first = f .first;
+    byte1 = f .byte1;
     zeros = f .zeros;
     tasks = f .tasks;
     messages = f .messages;

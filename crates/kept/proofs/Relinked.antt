@@ -12,7 +12,7 @@ use Rattle.board.specs.declared.numbers.Size.{Size}
 use Rattle.board.specs.declared.records.Task.{Task}
 use Rattle.board.specs.declared.records.Message.{Message}
 use Rattle.board.specs.Records.{noMessage, taskWithMptr, withLink}
-use Rattle.board.specs.Board.{Board, nth, put, task, message}
+use Rattle.board.specs.Board.{Board, nth, put, task, message, withMessages, withTask}
 use Rattle.board.proofs.Numbered.{nth-put, nth-put-other, nth-alike, length-put}
 use Rattle.paper.specs.Rules.{nextMessage}
 use Rattle.paper.specs.Changes.{linkMessage, withMptr, withQueue}
@@ -25,22 +25,10 @@ abbrev linkIn : List Message → ℕ → ℕ → List Message
 linkIn l x v = put l x (withLink (nth noMessage l x) v)
 
 abbrev pub requeued : Board → ℕ → List ℕ → Board
-requeued b r q = record {
-  first = b .first;
-  zeros = b .zeros;
-  tasks = put (b .tasks) r (taskWithMptr (task b r) (firstOf q));
-  messages = relink linkIn (b .messages) q;
-  places = b .places;
-}
+requeued b r q = withTask (withMessages b (relink linkIn (b .messages) q)) r (taskWithMptr (task b r) (firstOf q))
 
 -- linking on the board is linking in its messages
-relink-board : (b : Board) (q : List ℕ) → relink linkMessage b q ≡ record {
-  first = b .first;
-  zeros = b .zeros;
-  tasks = b .tasks;
-  messages = relink linkIn (b .messages) q;
-  places = b .places;
-}
+relink-board : (b : Board) (q : List ℕ) → relink linkMessage b q ≡ withMessages b (relink linkIn (b .messages) q)
 relink-board b [] = refl
 relink-board b (x ∷ q) = ap (λ (s : Board). linkMessage s x (firstOf q)) (relink-board b q)
 

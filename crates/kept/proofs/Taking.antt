@@ -24,7 +24,7 @@ use Rattle.board.specs.Numbers.{taskNo}
 use Rattle.board.specs.Status.{MHBS, has, number}
 use Rattle.board.specs.Records.{noTask, taskWithMptr, withLink}
 use Rattle.board.specs.Places.{placeByte, isQueuedAt}
-use Rattle.board.specs.Board.{Board, task, message, place, withTask}
+use Rattle.board.specs.Board.{Board, task, message, place, withTasks, withTask}
 use Rattle.board.proofs.Numbered.{put-nth}
 use Rattle.board.proofs.Codec.{place-held}
 use Rattle.paper.specs.declared.call.Call.the-variants.{Receive, CancelMessage}
@@ -146,9 +146,7 @@ module _ (z : Size) (b : Board) (order : List ℕ) (queues : ℕ → List ℕ) (
     take-none =
         ap (λ (q : List ℕ). hold (withQueue b c (restOf q)) c (firstOf q)) none
         ∙ ap (λ (t : Task). withTask b c t) (ap (taskWithMptr (task b c)) (sym n))
-        ∙ ap (λ (l : List Task).
-        record { first = b .first; zeros = b .zeros; tasks = l; messages = b .messages; places = b .places })
-        (put-nth noTask (b .tasks) c)
+        ∙ ap (withTasks b) (put-nth noTask (b .tasks) c)
 
     rest-none : changed queues c (restOf (queues c)) ≡ queues
     rest-none =

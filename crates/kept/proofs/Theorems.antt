@@ -45,7 +45,7 @@ use Rattle.kept.proofs.Dispatching.{Dispatched, dispatched}
 
 -- the small board's sizes are such that all promises hold
 pub small-sizes : Sizes small
-small-sizes = record { tasks = lit≤ tt; limit = lit≤ tt; words = lit< tt }
+small-sizes = record { tasks = lit≤ tt; limit = lit≤ tt; links = lit< tt }
 
 -- ---- the body of each call
 pub body-stands : BodyStands
@@ -72,7 +72,7 @@ body-stands z b q f WaitForInterrupt a w h m g = wait-stands z b q f h m g
 -- ---- a board that passes stands, with nobody due a message who runs; and the other way round
 module _ (z : Size) (b : Board) (a : Sizes z) (f : Fits z b) where
   pub sound-stands : (s : Sound z b) → Stands z b (s .order) (s .queues)
-  sound-stands s = record { fits = f; zeros = s .zeros; records = s .records; linked = s .linked; kept = s .kept; flags = s .flags }
+  sound-stands s = record { fits = f; byte1 = s .byte1; zeros = s .zeros; records = s .records; linked = s .linked; kept = s .kept; flags = s .flags }
 
   -- the first ready one of the order is the running task
   runs-first : (q : List ℕ) (queues : ℕ → List ℕ) → Stands z b q queues → running z b ≡ firstWith (ready b) q
@@ -95,6 +95,7 @@ module _ (z : Size) (b : Board) (a : Sizes z) (f : Fits z b) where
       says-passes z b (f .tasks) (f .places) (a .limit) .1 (record {
         order = q;
         queues = queues;
+        byte1 = h .byte1;
         zeros = h .zeros;
         records = h .records;
         linked = h .linked;

@@ -26,11 +26,11 @@ use Rattle.kept.specs.Stands.{Byte, Stands, Fitting}
 use Rattle.kept.specs.After.{orderAfter, queuesAfter}
 use Rattle.kept.specs.Frames.{tasksOf, messagesOf, queueOf, relinks, Frame}
 
--- sizes for which a place byte tells held from queued, links are words, and one limit serves both kinds of walk
+-- sizes for which a place byte tells held from queued and both from 128, links are words, and one limit serves both kinds of walk
 pub record Sizes (z : Size) : Type 0 where
-  pub tasks : z .tasks ≤ 64
+  pub tasks : z .tasks ≤ 63
   pub limit : z .tasks ≤ z .messages
-  pub words : z .messages < 65536
+  pub links : z .messages < 65536
 
 abbrev pub BodyStands : Type 0
 BodyStands =

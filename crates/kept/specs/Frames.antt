@@ -106,6 +106,7 @@ relinks WaitForInterrupt = false
 
 -- d is b but for the tasks ts, the messages ms, LINKs in the queue q (a list of messages), and, where order says so, LINKs of tasks
 pub record Frame (b d : Board) (ts ms q : List ℕ) (order : Bool) : Type 0 where
+  pub byte1 : d .byte1 ≡ b .byte1
   pub zeros : d .zeros ≡ b .zeros
   pub first : order ≡ false → d .first ≡ b .first
   pub tasks : (k : ℕ) → Out k ts → task d k ≡ taskWithLink (task b k) (task d k .link)

@@ -46,7 +46,8 @@ pub record FitsMessage (r : Message) : Type 0 where
 
 pub record Fits (z : Size) (b : Board) : Type 0 where
   pub first : Byte (b .first)
-  pub zeros : length (b .zeros) ≡ 3
+  pub byte1 : Byte (b .byte1)
+  pub zeros : length (b .zeros) ≡ 2
   pub tasks : length (b .tasks) ≡ z .tasks
   pub messages : length (b .messages) ≡ z .messages
   pub places : length (b .places) ≡ z .messages
@@ -56,6 +57,7 @@ pub record Fits (z : Size) (b : Board) : Type 0 where
 
 pub record Stands (z : Size) (b : Board) (order : List ℕ) (queues : ℕ → List ℕ) : Type 0 where
   pub fits : Fits z b
+  pub byte1 : b .byte1 ≡ 0  -- R1
   pub zeros : All (λ x. x ≡ 0) (b .zeros)  -- R1
   pub records : (k : ℕ) → Numbered (z .tasks) k → (task b k ≡ noTask) ⊎ Proper (task b k)  -- R2
   pub linked : Linked z b order queues  -- R3, R5

@@ -63,14 +63,15 @@ module _ (z : Size) (b : Board) (tasks : length (b .tasks) ≡ z .tasks) (places
   pub says-passes : Says (passes z b) (Sound z b)
   says-passes =
       Iff·trans
-      (says-allZero (b .zeros) & says-each (λ k. says-goodTask _)
+      (says-zero & says-allZero (b .zeros) & says-each (λ k. says-goodTask _)
       & says-lists noTask isThere (b .tasks) refl (λ k. Iff·rfl) fuel-tasks
       & says-each (λ m. says-goodMessage z b m (place b m))
       & says-each (λ k. says-lists Free (isQueuedAt k) (b .places) refl (λ m. says-isQueuedAt k (place b m)) fuel-places)
       & says-each (λ k. says-goodFlags _ _ _ says-zero) & says-not) (
-        (λ ((((((zeros, records), listed), kept), lists), flags), runner). record {
+        (λ (((((((byte1, zeros), records), listed), kept), lists), flags), runner). record {
           order = order z b;
           queues = queue z b;
+          byte1 = byte1;
           zeros = zeros;
           records = records;
           linked = record { tasks = listed; messages = lists };
@@ -79,7 +80,7 @@ module _ (z : Size) (b : Board) (tasks : length (b .tasks) ≡ z .tasks) (places
           runner = runner;
         }),
         λ s. let w = linked-walked (s .order) (s .queues) (s .linked) in
-            ((((((s .zeros, s .records), w .tasks), s .kept), w .messages), s .flags), rw (linked-walks (s .order) (s .queues) (s .linked) .0) (s .runner)),
+            (((((((s .byte1, s .zeros), s .records), w .tasks), s .kept), w .messages), s .flags), rw (linked-walks (s .order) (s .queues) (s .linked) .0) (s .runner)),
       )
 
   -- ---- a board that passes

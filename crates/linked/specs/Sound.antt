@@ -50,6 +50,7 @@ pub record Flags (s : Status) (Empty : Type 0) : Type 0 where
 pub record Sound (z : Size) (b : Board) : Type 0 where
   pub order : List ℕ
   pub queues : ℕ → List ℕ
+  pub byte1 : b .byte1 ≡ 0  -- R1
   pub zeros : All (λ x. x ≡ 0) (b .zeros)  -- R1
   pub records : (k : ℕ) → Numbered (z .tasks) k → (task b k ≡ noTask) ⊎ Proper (task b k)  -- R2
   pub linked : Linked z b order queues  -- R3, R5

@@ -65,7 +65,7 @@ allZero [] = true
 allZero (x ∷ l) = eqb x 0 && allZero l
 
 abbrev pub rule1 : Board → Bool
-rule1 b = allZero (b .zeros)
+rule1 b = eqb (b .byte1) 0 && allZero (b .zeros)
 
 -- ---- R2: a task record is absent, or one that a task can have
 abbrev pub zeroTask : Task → Bool

@@ -79,7 +79,7 @@ module _ (z : Size) (l : List ℕ) where
     board-link-message m next = board-put-message z l e m _
 
     -- a message in a task's hands
-    pub board-hold : (c m : ℕ) → Numbered (z .tasks) c → z .tasks ≤ 64 → boardOf z (holdIn z l c m) ≡ hold (boardOf z l) c m
+    pub board-hold : (c m : ℕ) → Numbered (z .tasks) c → z .tasks ≤ 63 → boardOf z (holdIn z l c m) ≡ hold (boardOf z l) c m
     board-hold c m h s =
         board-put-held z (linkMessageIn z l m 0) (length-link-message m 0 ∙ e) m c (h .0) (h .1) s
         ∙ ap (λ (b : Board). withPlace b m (HeldBy (taskNo c))) (board-link-message m 0)

@@ -10,7 +10,7 @@ use Prim.Native.Nat.{ℕ, _≤_}
 use lib.ListN.{length}
 use Rattle.board.specs.declared.records.Task.{Task}
 use Rattle.board.specs.Records.{noTask, noMessage, taskWithLink, taskWithMptr, withLink}
-use Rattle.board.specs.Board.{Board, nth, put, task, message, withFirst, withTask}
+use Rattle.board.specs.Board.{Board, nth, put, task, message, withFirst, withTasks, withMessages, withTask}
 use Rattle.board.proofs.Numbered.{nth-put, nth-put-other, put-nth, put-put, put-comm}
 use Rattle.paper.specs.Rules.{nextTask, nextMessage}
 use Rattle.paper.specs.Changes.{linkTask, linkMessage, withMptr}
@@ -39,7 +39,7 @@ pub link-message-comm : (b : Board) (x y u v : ℕ) → x ≢ y
     → linkMessage (linkMessage b x u) y v ≡ linkMessage (linkMessage b y v) x u
 link-message-comm b x y u v h =
     let m = change-comm noMessage (b .messages) x y (λ r. withLink r u) (λ r. withLink r v) h in
-    λ i. record { first = b .first; zeros = b .zeros; tasks = b .tasks; messages = m i; places = b .places }
+    λ i. withMessages b (m i)
 
 -- the LINK that is there
 pub link-message-same : (b : Board) (x v : ℕ) → nextMessage b x ≡ v → linkMessage b x v ≡ b
@@ -48,19 +48,19 @@ link-message-same b x v e =
     let s : withLink r v ≡ r =
     λ i. record { stat = r .stat; prio = r .prio; link = sym e i; rptr = r .rptr; sptr = r .sptr } in
     let m = change-same noMessage (b .messages) x (withLink r v) s in
-    λ i. record { first = b .first; zeros = b .zeros; tasks = b .tasks; messages = m i; places = b .places }
+    λ i. withMessages b (m i)
 
 -- ---- tasks
 -- LINK of two tasks
 pub link-task-comm : (b : Board) (x y u v : ℕ) → x ≢ y → linkTask (linkTask b x u) y v ≡ linkTask (linkTask b y v) x u
 link-task-comm b x y u v h =
     let t = change-comm noTask (b .tasks) x y (λ r. taskWithLink r u) (λ r. taskWithLink r v) h in
-    λ i. record { first = b .first; zeros = b .zeros; tasks = t i; messages = b .messages; places = b .places }
+    λ i. withTasks b (t i)
 
 task-same : (b : Board) (k : ℕ) (t : Task) → t ≡ task b k → withTask b k t ≡ b
 task-same b k t e =
     let s = change-same noTask (b .tasks) k t e in
-    λ i. record { first = b .first; zeros = b .zeros; tasks = s i; messages = b .messages; places = b .places }
+    λ i. withTasks b (s i)
 
 -- the LINK that is there
 pub link-task-same : (b : Board) (x v : ℕ) → nextTask b x ≡ v → linkTask b x v ≡ b
@@ -78,8 +78,7 @@ mptr-same b k v e =
 
 -- the byte 0 that is there
 pub first-same : (b : Board) (v : ℕ) → b .first ≡ v → withFirst b v ≡ b
-first-same b v e =
-    λ i. record { first = sym e i; zeros = b .zeros; tasks = b .tasks; messages = b .messages; places = b .places }
+first-same b v e = λ i. withFirst b (sym e i)
 
 -- ---- the stores
 -- the queue of task r
@@ -113,4 +112,4 @@ pub link-task-put : (b : Board) (k v : ℕ) (t : Task) → 1 ≤ k → k ≤ len
     → linkTask (withTask b k t) k v ≡ withTask b k (taskWithLink t v)
 link-task-put b k v t h n =
     let s = change-put noTask (b .tasks) k (λ r. taskWithLink r v) t h n in
-    λ i. record { first = b .first; zeros = b .zeros; tasks = s i; messages = b .messages; places = b .places }
+    λ i. withTasks b (s i)

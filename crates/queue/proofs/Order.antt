@@ -79,7 +79,7 @@ next-all P next x m (y ∷ q) c h g (inl e) =
     subst (λ (u : ℕ). P (next u)) (sym e) (start-all P next (next y) q (c .2) h (g .1))
 next-all P next x m (y ∷ q) c h g (inr i) = next-all P next (next y) m q (c .2) h (g .1) i
 
-module _ (z : Size) (l : List ℕ) (e : length l ≡ total z) (fuel : z .tasks ≤ z .messages) (small : z .tasks ≤ 64)
+module _ (z : Size) (l : List ℕ) (e : length l ≡ total z) (fuel : z .tasks ≤ z .messages) (small : z .tasks ≤ 63)
     {tasks : List ℕ} {queues : ℕ → List ℕ} (h : Linked z (boardOf z l) tasks queues) where
   abbrev b : Board
   b = boardOf z l

@@ -33,7 +33,8 @@ use Rattle.rules.specs.Walks.{isQueued}
 
 -- ---- bytes 1 to 3
 -- they are read one by one, as 0 past the end
-pub zeros-read : (l : List ℕ) → allZero (take 3 (drop 1 l)) ≡ eqb (getD l 1 0) 0 && (eqb (getD l 2 0) 0 && eqb (getD l 3 0) 0)
+pub zeros-read : (l : List ℕ)
+    → eqb (getD l 1 0) 0 && allZero (take 2 (drop 2 l)) ≡ eqb (getD l 1 0) 0 && (eqb (getD l 2 0) 0 && eqb (getD l 3 0) 0)
 zeros-read [] = refl
 zeros-read (x ∷ []) = refl
 zeros-read (x ∷ y ∷ []) = refl

@@ -1,7 +1,9 @@
 // R1, R2, R4 and R6: what the bytes of one record must be.
+ghost use mathlib.Core.Bool.{_&&_};
 ghost use mathlib.Core.Path.{_≡_};
 ghost use Prim.Native.Nat.{_≤_};
-ghost use lib.ListN.{length, take, drop};
+ghost use lib.Dec.{eqb};
+ghost use lib.ListN.{length, getD, take, drop};
 ghost use Rattle.links.specs.Queue.{each};
 ghost use Rattle.board.specs.declared.places.Place.the-variants.{HeldBy, QueuedAt};
 ghost use Rattle.board.specs.Board.{total, boardOf};
@@ -19,7 +21,7 @@ use board::words::place_meant;
 use board::words::task_meant;
 
 pub fn rule1(b: &[u8]) -> bool
-    ensures { λ res. ⌜ res ≡ allZero (take 3 (drop 1 (now (b .entry)))) ⌝ }
+    ensures { λ res. ⌜ res ≡ eqb (getD (now (b .entry)) 1 0) 0 && allZero (take 2 (drop 2 (now (b .entry)))) ⌝ }
 {
     if byte(b, 1) != 0 {
         return false;

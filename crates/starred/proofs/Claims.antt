@@ -18,7 +18,7 @@ use Rattle.board.specs.Numbers.{small, taskNo}
 use Rattle.board.specs.Status.{stored}
 use Rattle.board.specs.Records.{noTask, noMessage}
 use Rattle.board.specs.Places.{placeIn, placeBytes, isFree, isQueuedAt}
-use Rattle.board.specs.Board.{Board, boardOf, bytesOf, cut, join, nth, withPlace}
+use Rattle.board.specs.Board.{Board, board, boardOf, bytesOf, cut, join, nth, withPlace}
 use Rattle.paper.specs.declared.call.Call.{Call}
 use Rattle.paper.specs.declared.call.Call.the-variants.{Claim}
 use Rattle.paper.specs.declared.answer.Refusal.the-variants.{WrongLength, RuleBroken, NoneFree}
@@ -37,12 +37,11 @@ loneTask = record { stat = stored 0x01; prio = 0x33; link = 0; mptr = 0; sptr = 
 abbrev held : Place
 held = HeldBy (taskNo 1)
 
-abbrev board : List Place → Board
-board ps =
-    record { first = 1; zeros = 0 ∷ 0 ∷ 0 ∷ []; tasks = loneTask ∷ replicate 31 noTask; messages = replicate 128 noMessage; places = ps }
+abbrev lone : List Place → Board
+lone ps = board 1 0 (0 ∷ 0 ∷ []) (loneTask ∷ replicate 31 noTask) (replicate 128 noMessage) ps
 
 abbrev pub bytes : List Place → List ℕ
-bytes ps = bytesOf (board ps)
+bytes ps = bytesOf (lone ps)
 
 -- j messages held, n free
 abbrev pub spread : ℕ → ℕ → List Place
@@ -93,15 +92,15 @@ few-place : (ps : List Place) → Few ps → (m : ℕ) → FewAt (nth Free ps m)
 few-place ps h zero = tt
 few-place ps h (suc m) = few-at ps h m
 
-free-or-held : (ps : List Place) (p : Place) → FewAt p → goodMessage small (present (board ps)) noMessage p ≡ true
+free-or-held : (ps : List Place) (p : Place) → FewAt p → goodMessage small (present (lone ps)) noMessage p ≡ true
 free-or-held ps Free h = refl
-free-or-held ps (HeldBy k) h = ap (present (board ps)) h
+free-or-held ps (HeldBy k) h = ap (present (lone ps)) h
 free-or-held ps (QueuedAt k) h = absurd h
 free-or-held ps (Nowhere p) h = absurd h
 
-rule4-holds : (ps : List Place) → Few ps → (m : ℕ) → rule4At small (board ps) m ≡ true
+rule4-holds : (ps : List Place) → Few ps → (m : ℕ) → rule4At small (lone ps) m ≡ true
 rule4-holds ps h m =
-    ap (λ (r : Message). goodMessage small (present (board ps)) r (nth Free ps m)) (zero-message m)
+    ap (λ (r : Message). goodMessage small (present (lone ps)) r (nth Free ps m)) (zero-message m)
     ∙ free-or-held ps (nth Free ps m) (few-place ps h m)
 
 not-queued : (k : ℕ) (p : Place) → FewAt p → isQueuedAt k p ≡ false
@@ -115,18 +114,18 @@ none-queued [] h k n = refl
 none-queued (p ∷ ps) h k n =
     ap₂ (λ (t : Bool) (l : List ℕ). consIf t n l) (not-queued k p (h .0)) (none-queued ps (h .1) k (suc n))
 
-rule5-holds : (ps : List Place) → Few ps → (k : ℕ) → rule5At small (board ps) k ≡ true
+rule5-holds : (ps : List Place) → Few ps → (k : ℕ) → rule5At small (lone ps) k ≡ true
 rule5-holds ps h k =
-    ap₂ (λ (x : ℕ) (l : List ℕ). lists (nextMessage (board ps)) (messageNumber (board ps)) 128 x l) (no-queue k) (none-queued ps h k 1)
+    ap₂ (λ (x : ℕ) (l : List ℕ). lists (nextMessage (lone ps)) (messageNumber (lone ps)) 128 x l) (no-queue k) (none-queued ps h k 1)
 
 each-true : (f : ℕ → Bool) → ((m : ℕ) → f m ≡ true) → (n : ℕ) → each f n ≡ true
 each-true f h zero = refl
 each-true f h (suc n) = ap₂ (λ (s t : Bool). s && t) (each-true f h n) (h (suc n))
 
-lone-passes : (ps : List Place) → Few ps → passes small (board ps) ≡ true
+lone-passes : (ps : List Place) → Few ps → passes small (lone ps) ≡ true
 lone-passes ps h =
-    ap₂ (λ (s t : Bool). true && s && t && true && true) (each-true (rule4At small (board ps)) (rule4-holds ps h) 128)
-    (each-true (rule5At small (board ps)) (rule5-holds ps h) 32)
+    ap₂ (λ (s t : Bool). true && s && t && true && true) (each-true (rule4At small (lone ps)) (rule4-holds ps h) 128)
+    (each-true (rule5At small (lone ps)) (rule5-holds ps h) 32)
 
 -- ---- its bytes are that board
 place-back : (p : Place) → FewAt p → placeIn small (placeBytes p) ≡ p
@@ -143,8 +142,8 @@ places-back (suc n) [] e h = absurd (omega arith)
 places-back (suc n) (p ∷ ps) e h =
     ap₂ (λ (x : Place) (l : List Place). x ∷ l) (place-back p (h .0)) (places-back n ps (omega arith) (h .1))
 
-reads : (ps : List Place) → length ps ≡ 128 → Few ps → boardOf small (bytes ps) ≡ board ps
-reads ps n h = ap board (places-back 128 ps n h)
+reads : (ps : List Place) → length ps ≡ 128 → Few ps → boardOf small (bytes ps) ≡ lone ps
+reads ps n h = ap lone (places-back 128 ps n h)
 
 places-length : (ps : List Place) → length (join (map placeBytes ps)) ≡ length ps
 places-length [] = refl
@@ -159,9 +158,9 @@ right-length ps n =
 abbrev claimed-by : List Place → Bool → Bool → Bool → ℕ → Outcome
 claimed-by ps t u w m =
     judge (bytes ps) (lowest (test WrongLength (not t) ∷ test RuleBroken (not u) ∷ no3 1 ∷ test NoneFree w ∷ []))
-    (dispatch small (bytes ps) (done m (withPlace (board ps) m held)))
+    (dispatch small (bytes ps) (done m (withPlace (lone ps) m held)))
 
-claim-gives : (ps : List Place) (i : ℕ) → length ps ≡ 128 → Few ps → lowestFree (board ps) ≡ suc i
+claim-gives : (ps : List Place) (i : ℕ) → length ps ≡ 128 → Few ps → lowestFree (lone ps) ≡ suc i
     → effect small (bytes ps) Claim ≡ accepted (suc i) 1 0 (bytes (set ps i held))
 claim-gives ps i n h e =
     ap (λ (b : Board). called small (bytes ps) b (running small b) Claim) (reads ps n h)

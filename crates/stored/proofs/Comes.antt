@@ -61,13 +61,13 @@ module _ (z : Size) (l : List ℕ) (e : length l ≡ total z) where
   pub comes-free : (m : ℕ) → Comes z (putPlace z l m Free) (withPlace (boardOf z l) m Free)
   comes-free m = (length-place m Free, board-put-free z l e m)
 
-  pub comes-held : (m k : ℕ) → Numbered (z .tasks) k → z .tasks ≤ 64
+  pub comes-held : (m k : ℕ) → Numbered (z .tasks) k → z .tasks ≤ 63
       → Comes z (putPlace z l m (HeldBy (taskNo k))) (withPlace (boardOf z l) m (HeldBy (taskNo k)))
   comes-held m k n s = (length-place m (HeldBy (taskNo k)), board-put-held z l e m k (n .0) (n .1) s)
 
-  pub comes-queued : (m k : ℕ) → Numbered (z .tasks) k → z .tasks ≤ 64
+  pub comes-queued : (m k : ℕ) → Numbered (z .tasks) k → z .tasks ≤ 63
       → Comes z (putPlace z l m (QueuedAt (taskNo k))) (withPlace (boardOf z l) m (QueuedAt (taskNo k)))
   comes-queued m k n s = (length-place m (QueuedAt (taskNo k)), board-put-queued z l e m k (n .0) (n .1) s)
 
-  pub comes-hold : (c m : ℕ) → Numbered (z .tasks) c → z .tasks ≤ 64 → Comes z (holdIn z l c m) (hold (boardOf z l) c m)
+  pub comes-hold : (c m : ℕ) → Numbered (z .tasks) c → z .tasks ≤ 63 → Comes z (holdIn z l c m) (hold (boardOf z l) c m)
   comes-hold c m n s = (length-hold z l c m ∙ e, board-hold z l e c m n s)
