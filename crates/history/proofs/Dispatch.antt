@@ -13,6 +13,7 @@ use Rattle.board.specs.Board.{Board, bytesOf, task}
 use Rattle.paper.specs.declared.answer.Answer.the-variants.{Accepted}
 use Rattle.paper.specs.Rules.{present, queue, emptyQueue, running}
 use Rattle.paper.specs.Changes.{clears, takeFirst}
+use Rattle.paper.specs.Refusals.{Test}
 use Rattle.paper.specs.Step as paper
 use Rattle.linked.specs.Linked.{Numbered}
 use Rattle.kept.specs.Stands.{Stands}
@@ -49,7 +50,7 @@ clears-same z b q f p c bit d t =
     (λ l s n w. same-at l s n (plain-clears l s n b c d bit) (named-flagged z (plainOf b l s n) q f w c _))
 
 module _ (z : Size) (b : Board) (q : List ℕ) (f : ℕ → List ℕ) (a : Sizes z) (h : Stands z b q f)
-    (l s : List Entry) (n : ℕ) (w : Named z (plainOf b l s n) q f) (bytes : List ℕ) (old : Plain) (v : ℕ) where
+    (l s : List Entry) (n : ℕ) (w : Named z (plainOf b l s n) q f) (bytes : List ℕ) (old : Plain) (tests : List Test) (v : ℕ) where
   abbrev c : ℕ
   c = running z b
 
@@ -72,7 +73,7 @@ module _ (z : Size) (b : Board) (q : List ℕ) (f : ℕ → List ℕ) (a : Sizes
 
     -- it has one
     delivers : (m : ℕ) → plain.first p c ≡ m
-        → Dispatched z (paper.accepted v c (firstOf (queue z b c)) (bytesOf after)) (plain.deliver old (plain.done v p) c m)
+        → Dispatched z (paper.accepted v c (firstOf (queue z b c)) (bytesOf after)) (plain.deliver old (plain.played tests v p) c m)
     delivers zero e = absurd (due-queued z b q f a h c runner due (sym (first-mptr z b q f a h l s n w c numbered) ∙ e))
     delivers (suc m) e = record {
       answers = ap (λ (x : ℕ). Accepted v c x) (sym (first-walked z b q f a h l s n w c numbered) ∙ e);
@@ -90,16 +91,16 @@ module _ (z : Size) (b : Board) (q : List ℕ) (f : ℕ → List ℕ) (a : Sizes
     queued : emptyQueue b c ≡ false
     queued = ne-eqb (task b c .mptr) 0 (due-queued z b q f a h c runner due)
 
-    delivered : Dispatched z (paper.deliver z bytes (paper.done v b) c) (plain.deliver old (plain.done v p) c (plain.first p c))
+    delivered : Dispatched z (paper.deliver z bytes (paper.done v b) c) (plain.deliver old (plain.played tests v p) c (plain.first p c))
     delivered = rw queued (delivers (plain.first p c) refl)
 
   -- it is handed its first message, if it is due one
   pub dispatch-alike : let p = plainOf b l s n in
-      Dispatched z (paper.dispatch z bytes (paper.done v b)) (plain.dispatch old (plain.done v p))
+      Dispatched z (paper.dispatch z bytes (paper.done v b)) (plain.dispatch old (plain.played tests v p))
   dispatch-alike = step (has (task b c .stat) MHBS) refl
     where
       step : (t : Bool) → has (task b c .stat) MHBS ≡ t
-          → Dispatched z (paper.dispatch z bytes (paper.done v b)) (plain.dispatch old (plain.done v p))
+          → Dispatched z (paper.dispatch z bytes (paper.done v b)) (plain.dispatch old (plain.played tests v p))
       step true e = rw (asked-running z b q f a h l s n w, e) (delivered e)
       step false e = rw (asked-running z b q f a h l s n w, e) (record {
         answers = refl;

@@ -26,7 +26,7 @@ use Rattle.kept.proofs.Holding.{isQueued}
 use Rattle.kept.proofs.Fitting.{fits-board}
 use Rattle.kept.proofs.Theorems.{stands-passes}
 use Rattle.history.specs.Ranking.{Names}
-use Rattle.history.specs.Machine.{start}
+use Rattle.history.specs.Machine.{machine, start}
 use Rattle.history.specs.Claims.{sheetOf, blockOf}
 use Rattle.history.proofs.Rolls.{Roll}
 use Rattle.history.proofs.Named.{Named}
@@ -146,14 +146,8 @@ module _ (z : Size) where
   }
 
   fresh-plain : plainOf b [] [] 0 ≡ start
-  fresh-plain = λ i. record {
-    sheets = λ k. sheetOf (fresh-task k i);
-    blocks = λ m. blockOf (fresh-message m i);
-    whose = λ m. whoseOf (fresh-place m i);
-    installs = [];
-    placements = [];
-    clock = 0;
-  }
+  fresh-plain = λ i.
+      machine (λ k. sheetOf (fresh-task k i)) (λ m. blockOf (fresh-message m i)) (λ m. whoseOf (fresh-place m i)) [] [] 0
 
   -- none is installed or placed
   no-names : Names [] []

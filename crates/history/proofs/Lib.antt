@@ -7,11 +7,10 @@ pub mod Listed
 pub mod Named
 pub mod Machines
 pub mod Asked
-pub mod Verdicts
 pub mod Same
 pub mod Placed
 pub mod Taken
-pub mod Bodies
+pub mod Calls
 pub mod Dispatch
 pub mod Steps
 pub mod Fresh

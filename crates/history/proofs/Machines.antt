@@ -26,7 +26,7 @@ use Rattle.linked.specs.Linked.{Numbered}
 use Rattle.kept.proofs.Reading.{relink-keeps}
 use Rattle.history.specs.Ranking.{Entry}
 use Rattle.history.specs.Machine as plain
-use Rattle.history.specs.Machine.{Sheet, Block, Whose, Free, Held, Queued, Plain, noSheet, upd, withSheet, withBlock, withWhose}
+use Rattle.history.specs.Machine.{Sheet, Block, Whose, Free, Held, Queued, Plain, noSheet, machine, upd, withSheet, withBlock, withWhose}
 use Rattle.history.specs.Claims.{sheetOf, blockOf}
 use Rattle.history.proofs.Named.{laid}
 
@@ -40,14 +40,7 @@ whoseOf (places.Nowhere p) = Free
 
 -- with the entries l and s, at the time n
 abbrev pub plainOf : Board → List Entry → List Entry → ℕ → Plain
-plainOf b l s n = record {
-  sheets = λ k. sheetOf (task b k);
-  blocks = λ m. blockOf (message b m);
-  whose = λ m. whoseOf (place b m);
-  installs = l;
-  placements = s;
-  clock = n;
-}
+plainOf b l s n = machine (λ k. sheetOf (task b k)) (λ m. blockOf (message b m)) (λ m. whoseOf (place b m)) l s n
 
 -- a record written is its value changed
 upd-put : {A B : Type 0} (f : A → B) (none : A) (r : List A) (k : ℕ) (x : A) → Numbered (length r) k
@@ -64,39 +57,34 @@ module _ (l s : List Entry) (n : ℕ) where
   plain-task : (b : Board) (k : ℕ) (t : Task) → Numbered (length (b .tasks)) k
       → withSheet (plainOf b l s n) k (sheetOf t) ≡ plainOf (withTask b k t) l s n
   plain-task b k t h =
-      ap (λ (g : ℕ → Sheet). let p = plainOf b l s n in
-      record { sheets = g; blocks = p .blocks; whose = p .whose; installs = l; placements = s; clock = n })
+      ap (λ (g : ℕ → Sheet). let p = plainOf b l s n in machine g (p .blocks) (p .whose) l s n)
       (upd-put sheetOf noTask (b .tasks) k t h)
 
   -- a message
   pub plain-message : (b : Board) (m : ℕ) (r : Message) → Numbered (length (b .messages)) m
       → withBlock (plainOf b l s n) m (blockOf r) ≡ plainOf (withMessage b m r) l s n
   plain-message b m r h =
-      ap (λ (g : ℕ → Block). let p = plainOf b l s n in
-      record { sheets = p .sheets; blocks = g; whose = p .whose; installs = l; placements = s; clock = n })
+      ap (λ (g : ℕ → Block). let p = plainOf b l s n in machine (p .sheets) g (p .whose) l s n)
       (upd-put blockOf noMessage (b .messages) m r h)
 
   -- a place
   pub plain-place : (b : Board) (m : ℕ) (x : Place) → Numbered (length (b .places)) m
       → withWhose (plainOf b l s n) m (whoseOf x) ≡ plainOf (withPlace b m x) l s n
   plain-place b m x h =
-      ap (λ (g : ℕ → Whose). let p = plainOf b l s n in
-      record { sheets = p .sheets; blocks = p .blocks; whose = g; installs = l; placements = s; clock = n })
+      ap (λ (g : ℕ → Whose). let p = plainOf b l s n in machine (p .sheets) (p .blocks) g l s n)
       (upd-put whoseOf places.Free (b .places) m x h)
 
   -- ---- links written: the machine has none
   plain-task-alike : (b : Board) (k : ℕ) (t : Task) → sheetOf t ≡ sheetOf (task b k)
       → plainOf (withTask b k t) l s n ≡ plainOf b l s n
   plain-task-alike b k t e =
-      ap (λ (g : ℕ → Sheet). let p = plainOf b l s n in
-      record { sheets = g; blocks = p .blocks; whose = p .whose; installs = l; placements = s; clock = n })
+      ap (λ (g : ℕ → Sheet). let p = plainOf b l s n in machine g (p .blocks) (p .whose) l s n)
       (fun-ext (λ j. nth-alike sheetOf noTask (b .tasks) k j t e))
 
   plain-message-alike : (b : Board) (m : ℕ) (r : Message) → blockOf r ≡ blockOf (message b m)
       → plainOf (withMessage b m r) l s n ≡ plainOf b l s n
   plain-message-alike b m r e =
-      ap (λ (g : ℕ → Block). let p = plainOf b l s n in
-      record { sheets = p .sheets; blocks = g; whose = p .whose; installs = l; placements = s; clock = n })
+      ap (λ (g : ℕ → Block). let p = plainOf b l s n in machine (p .sheets) g (p .whose) l s n)
       (fun-ext (λ j. nth-alike blockOf noMessage (b .messages) m j r e))
 
   -- the queue of a task

@@ -16,7 +16,7 @@ use Rattle.linked.specs.Linked.{Numbered}
 use Rattle.kept.specs.After.{changed}
 use Rattle.kept.proofs.Reading.{cond-holds}
 use Rattle.history.specs.Ranking.{Entry, Stands}
-use Rattle.history.specs.Machine.{Sheet, Block, Plain, noSheet, upd, withBlock, flagged, sets, clears, first, place, take, cancelMessage, install, cancelTask}
+use Rattle.history.specs.Machine.{Sheet, Block, Plain, noSheet, machine, upd, withBlock, flagged, sets, clears, first, place, take, cancelMessage, install, cancelTask}
 use Rattle.history.proofs.Listed.{Lists, lists-stays, lists-install, lists-cancel, lists-place, lists-take}
 
 -- ---- one value changed
@@ -98,14 +98,7 @@ module _ (z : Size) (p : Plain) (q : List ℕ) (f : ℕ → List ℕ) (h : Named
 
 -- ---- a message placed
 abbrev withSheets : Plain → (ℕ → Sheet) → Plain
-withSheets p g = record {
-  sheets = g;
-  blocks = p .blocks;
-  whose = p .whose;
-  installs = p .installs;
-  placements = p .placements;
-  clock = p .clock;
-}
+withSheets p g = machine g (p .blocks) (p .whose) (p .installs) (p .placements) (p .clock)
 
 -- it lies there and r isn't woken yet: where there are no tasks a placement wakes nobody
 abbrev pub laid : Plain → ℕ → ℕ → Plain

@@ -25,7 +25,7 @@ use Rattle.kept.proofs.Holding.{isQueued, held-numbered, lowest-free}
 use Rattle.history.specs.Ranking as ranks
 use Rattle.history.specs.Ranking.{Entry}
 use Rattle.history.specs.Machine as plain
-use Rattle.history.specs.Machine.{Plain, Held, noBlock, withBlock, withWhose}
+use Rattle.history.specs.Machine.{Plain, Held, noBlock, withWhose}
 use Rattle.history.proofs.Named.{Named, named-flagged, named-block, named-install, named-cancel}
 use Rattle.history.proofs.Machines.{plainOf, plain-message, plain-place, plain-post, plain-wait, plain-install, plain-cancel}
 use Rattle.history.proofs.Asked.{asked-free, entry-present, entry-queued}
@@ -76,7 +76,7 @@ module _ (z : Size) (b : Board) (q : List ℕ) (f : ℕ → List ℕ) (a : Sizes
   -- ---- messages that stand in no queue
   -- claim
   pub claim-same : (c : ℕ) → lowestFree b ≢ 0
-      → let p = plainOf b l s n in Same z (claim b c) q f (withWhose p (plain.lowestFree z p) (Held c))
+      → let p = plainOf b l s n in Same z (claim b c) q f (plain.claim z p c)
   claim-same c d =
       same-at l s n
       (ap (λ (m : ℕ). withWhose p m (Held c)) (asked-free z b q f h l s n)
@@ -93,7 +93,7 @@ module _ (z : Size) (b : Board) (q : List ℕ) (f : ℕ → List ℕ) (a : Sizes
     message-there = rw (h .fits .messages) (held-numbered z b q f h m c held)
 
     -- release
-    pub release-same : Same z (release b m) q f (withWhose (withBlock (plainOf b l s n) m noBlock) m plain.Free)
+    pub release-same : Same z (release b m) q f (plain.release (plainOf b l s n) m)
     release-same =
         same-at l s n
         (ap (λ (x : Plain). withWhose x m plain.Free) (plain-message l s n b m noMessage message-there)

@@ -13,18 +13,18 @@ use Rattle.paper.specs.Rules.{running, passes}
 use Rattle.paper.specs.Refusals.{Test, no1, no2, own, row, Verdict, Go, Stop, lowest}
 use Rattle.paper.specs.Step as paper
 use Rattle.kept.specs.Stands.{Stands, Fitting}
+use Rattle.kept.specs.After.{orderAfter, queuesAfter}
 use Rattle.kept.specs.Claims.{Sizes, Bytes}
 use Rattle.kept.proofs.Fitting.{board-bytes}
 use Rattle.kept.proofs.Theorems.{body-stands, passing-sound, sound-runner, passing-stays-passing}
 use Rattle.history.specs.Ranking.{Entry}
 use Rattle.history.specs.Machine as plain
-use Rattle.history.specs.Machine.{Plain, Result}
+use Rattle.history.specs.Machine.{Plain, Played, Result}
 use Rattle.history.proofs.Named.{Named}
 use Rattle.history.proofs.Machines.{plainOf}
 use Rattle.history.proofs.Asked.{asked-running}
-use Rattle.history.proofs.Verdicts.{told, verdict-told}
 use Rattle.history.proofs.Same.{Same, same-at, same-holds}
-use Rattle.history.proofs.Bodies.{body-alike}
+use Rattle.history.proofs.Calls.{Alike, calls-alike}
 use Rattle.history.proofs.Dispatch.{Dispatched, dispatch-alike}
 
 -- ---- the bytes of a board and the machine
@@ -75,8 +75,11 @@ module _ (z : Size) (a : Sizes z) (bytes : List ℕ) (call : Call) (fits : Fitti
   abbrev d : paper.Done
   d = paper.body z b c call
 
-  abbrev e : plain.Done
-  e = plain.body z p c call
+  abbrev e : Played
+  e = plain.play z p c call
+
+  alike : Alike z (own z b c call) d (orderAfter b q call) (queuesAfter b c f call) e
+  alike = calls-alike z b q f a h l s n w call
 
   -- refusals 1 and 2 don't apply
   row-own : lowest (row z bytes b c call) ≡ lowest (own z b c call)
@@ -87,16 +90,15 @@ module _ (z : Size) (a : Sizes z) (bytes : List ℕ) (call : Call) (fits : Fitti
   -- the body, and then dispatch
   went : lowest (own z b c call) ≡ Go → Ended z (paper.dispatch z bytes d) (plain.dispatch p e)
   went g =
-      let t = body-alike z b q f a h l s n w call g in
       let r = sound-runner z b a (h .fits) (passing-sound z b a (h .fits) sound) in
-      let to : ℕ → Plain → Type 0 = λ v x. Dispatched z (paper.dispatch z bytes d) (plain.dispatch p (plain.done v x)) in
-      dispatched-ends z _ _ (subst (λ (v : ℕ). to v (e .plain)) (t .value)
-      (same-holds z (d .board) _ _ (e .plain) (to (d .value)) (t .same)
-      (λ l s n w. dispatch-alike z (d .board) _ _ a (body-stands z b q f call a fits h r g) l s n w bytes p (d .value))))
+      let to : ℕ → Plain → Type 0 = λ v x. Dispatched z (paper.dispatch z bytes d) (plain.dispatch p (plain.played (e .refusals) v x)) in
+      dispatched-ends z _ _ (subst (λ (v : ℕ). to v (e .plain)) (alike .value g)
+      (same-holds z (d .board) _ _ (e .plain) (to (d .value)) (alike .same g)
+      (λ l s n w. dispatch-alike z (d .board) _ _ a (body-stands z b q f call a fits h r g) l s n w bytes p (e .refusals) (d .value))))
 
   -- whatever its row gives
   judged-ends : (v : Verdict) → lowest (own z b c call) ≡ v
-      → Ended z (paper.judge bytes v (paper.dispatch z bytes d)) (plain.judged p (told v) (plain.dispatch p e))
+      → Ended z (paper.judge bytes v (paper.dispatch z bytes d)) (plain.judged p v (plain.dispatch p e))
   judged-ends Go g = went g
   judged-ends (Stop r) g = record {
     answers = refl;
@@ -106,18 +108,18 @@ module _ (z : Size) (a : Sizes z) (bytes : List ℕ) (call : Call) (fits : Fitti
     same = same-at l s n refl w;
   }
 
-  -- the machine finds the same task running, and the same refusals
-  step-judged : plain.judged p (told (lowest (own z b c call))) (plain.dispatch p e) ≡ plain.step z p call
+  -- the machine finds the same refusals, and the same task running
+  step-judged : plain.judged p (lowest (own z b c call)) (plain.dispatch p e) ≡ plain.step z p call
   step-judged =
-      ap (λ (v : plain.Verdict). plain.judged p v (plain.dispatch p e)) (sym (verdict-told z b q f a h l s n w c call))
-      ∙ ap (λ (k : ℕ). plain.judged p (plain.verdict z p k call) (plain.dispatch p (plain.body z p k call)))
+      ap (λ (v : Verdict). plain.judged p v (plain.dispatch p e)) (sym (alike .verdict))
+      ∙ ap (λ (k : ℕ). let o = plain.play z p k call in plain.judged p (lowest (o .refusals)) (plain.dispatch p o))
       (sym (asked-running z b q f a h l s n w))
 
   effect-ends : Ended z (paper.effect z bytes call) (plain.step z (plainOf (boardOf z bytes) l s n) call)
   effect-ends =
       subst (λ (r : Result). Ended z (paper.effect z bytes call) r) step-judged
       (subst (λ (v : Verdict). Ended z (paper.judge bytes v (paper.dispatch z bytes d))
-      (plain.judged p (told (lowest (own z b c call))) (plain.dispatch p e))) (sym row-own)
+      (plain.judged p (lowest (own z b c call)) (plain.dispatch p e))) (sym row-own)
       (judged-ends (lowest (own z b c call)) refl))
 
 -- bytes and machine that agree give one answer to a call that fits, and agree afterwards

@@ -13,13 +13,12 @@ use Prim.Native.Nat.{ℕ}
 use lib.ListN.{length}
 use lib.Dec.{eqb}
 use Rattle.board.specs.declared.numbers.Size.{Size}
-use Rattle.board.specs.declared.numbers.TaskNo.{TaskNo}
 use Rattle.board.specs.declared.records.Task.{Task}
 use Rattle.board.specs.declared.records.Message.{Message}
 use Rattle.board.specs.declared.places.Place.{Place}
 use Rattle.board.specs.declared.places.Place.the-variants as places
 use Rattle.board.specs.Numbers.{small}
-use Rattle.board.specs.Board.{Board, boardOf, total, task, message, place}
+use Rattle.board.specs.Board.{boardOf, total, task, message, place}
 use Rattle.paper.specs.declared.call.Call.{Call}
 use Rattle.paper.specs.declared.answer.Answer.{Answer}
 use Rattle.paper.specs.Rules.{order, queue}
@@ -30,7 +29,7 @@ use Rattle.linked.specs.Linked.{Numbered}
 use Rattle.kept.specs.Stands.{Fitting}
 use Rattle.kept.specs.Claims.{Sizes}
 use Rattle.history.specs.Ranking.{Entry, keep, Ranking, Once, Names}
-use Rattle.history.specs.Machine.{Sheet, Block, Whose, Free, Held, Queued, Plain, start, Result, step, running}
+use Rattle.history.specs.Machine.{Sheet, Block, Whose, Free, Held, Queued, Plain, start, step, running}
 
 -- ---- the ranking is one
 pub record Ranked (l : List Entry) : Type 0 where

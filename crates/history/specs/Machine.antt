@@ -1,21 +1,27 @@
 -- The plain machine of demand 3: the station without links. It keeps the other fields of tasks and messages, who holds what, and the order of
 -- installs and placements, each with its priority and queue type; no link, no head of a queue, no insertion, no walk. A reader must believe
--- this file, and can read it alone beside document 01: STAT bits are named as there, number and fifo read a PRIO byte, withFifo sets its bit 0.
+-- this file, and can read it beside document 01: STAT bits are named as there, number and fifo read a PRIO byte, withFifo sets its bit 0. The
+-- refusals that look at arguments alone are paper's (Refusals), as is lowest: of the tests of a row the lowest that applies is given.
+--   play z p c call   the call's row, c running: its refusals, its value, and the machine before dispatch
 --   step z p call     the answer of a call, and the machine afterwards; z has the numbers of tasks and messages
 -- Assumes nothing.
 use mathlib.Core.Bool.{Bool, true, false, cond, not, _&&_, _||_}
 use mathlib.Core.List.{List, [], _∷_, _++_}
 use Prim.Native.Nat.{ℕ, zero, suc, _+_, _*_, _%_}
-use lib.Dec.{eqb, leb, ltb}
+use lib.Dec.{eqb}
 use Rattle.board.specs.declared.numbers.Size.{Size}
 use Rattle.board.specs.declared.status.Status.{Status}
-use Rattle.board.specs.Status.{WAIT, IWAT, BIT5, INTQ, MHBS, TCBB, stored, has, withBit, withoutBit, number, fifo, withFifo}
+use Rattle.board.specs.Numbers.{outside}
+use Rattle.board.specs.Status.{WAIT, IWAT, INTQ, MHBS, TCBB, stored, has, withBit, withoutBit, number, fifo, withFifo}
 use Rattle.paper.specs.declared.call.Call.{Call}
-use Rattle.paper.specs.declared.call.Call.the-variants.{Install, PostInterrupt, Find, CancelTask, Claim, Prepare, Release, Send, SendAndWait, Resend, ResendAndWait, Forward, ForwardAndWait, Return, ReturnAndWait, Receive, ReceiveAndWait, CancelMessage, WaitForInterrupt}
+use Rattle.paper.specs.declared.call.Call.the-variants.{Install, PostInterrupt, Find, CancelTask, Claim, Prepare, Release}
+use Rattle.paper.specs.declared.call.Call.the-variants.{Send, SendAndWait, Resend, ResendAndWait, Forward, ForwardAndWait, Return, ReturnAndWait}
+use Rattle.paper.specs.declared.call.Call.the-variants.{Receive, ReceiveAndWait, CancelMessage, WaitForInterrupt}
 use Rattle.paper.specs.declared.answer.Refusal.{Refusal}
-use Rattle.paper.specs.declared.answer.Refusal.the-variants.{NobodyRuns, NoSuchMessage, NotHeld, NoSuchTask, BadPriority, NotInstallable, BadStatus, TaskBusy, NoneFree, NotQueued, NotItsSender, BadSender, NothingToDeliver}
+use Rattle.paper.specs.declared.answer.Refusal.the-variants.{NotHeld, NoSuchTask, BadPriority, NotInstallable, TaskBusy, NoneFree, NotQueued, NotItsSender, NothingToDeliver}
 use Rattle.paper.specs.declared.answer.Answer.{Answer}
 use Rattle.paper.specs.declared.answer.Answer.the-variants.{Accepted, Refused}
+use Rattle.paper.specs.Refusals.{Test, test, no3, no4, no7Install, no9, no14, Verdict, Go, Stop, lowest}
 use Rattle.history.specs.Ranking.{Entry, foremost, keep}
 
 -- ---- what it keeps
@@ -50,27 +56,33 @@ noSheet = record { stat = stored 0; prio = 0; sptr = 0; name = 0 }
 abbrev pub noBlock : Block
 noBlock = record { stat = 0; prio = 0; rptr = 0; sptr = 0 }
 
-abbrev pub start : Plain
-start = record { sheets = λ k. noSheet; blocks = λ m. noBlock; whose = λ m. Free; installs = []; placements = []; clock = 0 }
+abbrev pub machine : (ℕ → Sheet) → (ℕ → Block) → (ℕ → Whose) → List Entry → List Entry → ℕ → Plain
+machine s b w i l n = record { sheets = s; blocks = b; whose = w; installs = i; placements = l; clock = n }
 
--- ---- one thing changed
+abbrev pub start : Plain
+start = machine (λ k. noSheet) (λ m. noBlock) (λ m. Free) [] [] 0
+
+-- ---- one thing changed, in one field
 abbrev pub upd : {A : Type 0} → (ℕ → A) → ℕ → A → ℕ → A
 upd f k x j = cond (eqb j k) x (f j)
 
 abbrev pub withSheet : Plain → ℕ → Sheet → Plain
-withSheet p k s = record { sheets = upd (p .sheets) k s; blocks = p .blocks; whose = p .whose; installs = p .installs; placements = p .placements; clock = p .clock }
+withSheet p k s = machine (upd (p .sheets) k s) (p .blocks) (p .whose) (p .installs) (p .placements) (p .clock)
 
 abbrev pub withBlock : Plain → ℕ → Block → Plain
-withBlock p m b = record { sheets = p .sheets; blocks = upd (p .blocks) m b; whose = p .whose; installs = p .installs; placements = p .placements; clock = p .clock }
+withBlock p m b = machine (p .sheets) (upd (p .blocks) m b) (p .whose) (p .installs) (p .placements) (p .clock)
 
 abbrev pub withWhose : Plain → ℕ → Whose → Plain
-withWhose p m w = record { sheets = p .sheets; blocks = p .blocks; whose = upd (p .whose) m w; installs = p .installs; placements = p .placements; clock = p .clock }
+withWhose p m w = machine (p .sheets) (p .blocks) (upd (p .whose) m w) (p .installs) (p .placements) (p .clock)
 
-abbrev pub withInstalls : Plain → List Entry → ℕ → Plain
-withInstalls p l n = record { sheets = p .sheets; blocks = p .blocks; whose = p .whose; installs = l; placements = p .placements; clock = n }
+abbrev pub withInstalls : Plain → List Entry → Plain
+withInstalls p l = machine (p .sheets) (p .blocks) (p .whose) l (p .placements) (p .clock)
 
-abbrev pub withPlacements : Plain → List Entry → ℕ → Plain
-withPlacements p l n = record { sheets = p .sheets; blocks = p .blocks; whose = p .whose; installs = p .installs; placements = l; clock = n }
+abbrev pub withPlacements : Plain → List Entry → Plain
+withPlacements p l = machine (p .sheets) (p .blocks) (p .whose) (p .installs) l (p .clock)
+
+abbrev pub tick : Plain → Plain
+tick p = machine (p .sheets) (p .blocks) (p .whose) (p .installs) (p .placements) (suc (p .clock))
 
 abbrev pub flagged : Plain → ℕ → Status → Plain
 flagged p k s = let t = p .sheets k in withSheet p k (record { stat = s; prio = t .prio; sptr = t .sptr; name = t .name })
@@ -127,7 +139,7 @@ abbrev pub place : Plain → ℕ → ℕ → Plain
 place p m r =
     let t = p .blocks m in
     let e : Entry = record { id = m; at = r; number = number (t .prio); fifo = fifo (t .prio); time = p .clock } in
-    let q = withWhose (withPlacements p (p .placements ++ (e ∷ [])) (suc (p .clock))) m (Queued r) in
+    let q = withWhose (withPlacements (tick p) (p .placements ++ (e ∷ []))) m (Queued r) in
     let w = withBlock q m (record { stat = t .stat; prio = withFifo (t .prio); rptr = t .rptr; sptr = t .sptr }) in
     cond (has (p .sheets r .stat) WAIT) (sets (clears w r WAIT) r MHBS) w
 
@@ -146,8 +158,7 @@ waits c p = sets p c (cond (eqb (first p c) 0) WAIT MHBS)
 -- c takes message m out of whatever queue it is in; nothing where m is 0
 abbrev pub take : Plain → ℕ → ℕ → Plain
 take p c zero = p
-take p c (suc m) =
-    withWhose (withPlacements p (keep (λ e. not (eqb (e .id) (suc m))) (p .placements)) (p .clock)) (suc m) (Held c)
+take p c (suc m) = withWhose (withPlacements p (keep (λ e. not (eqb (e .id) (suc m))) (p .placements))) (suc m) (Held c)
 
 abbrev pub cancelMessage : Plain → ℕ → ℕ → ℕ → Plain
 cancelMessage p c m r = let q = take p c m in
@@ -156,10 +167,10 @@ cancelMessage p c m r = let q = take p c m in
 abbrev pub install : Plain → ℕ → ℕ → ℕ → ℕ → ℕ → Plain
 install p k s prio sptr name =
     let e : Entry = record { id = k; at = 0; number = number prio; fifo = true; time = p .clock } in
-    withSheet (withInstalls p (p .installs ++ (e ∷ [])) (suc (p .clock))) k (record { stat = stored s; prio = prio; sptr = sptr; name = name })
+    withSheet (withInstalls (tick p) (p .installs ++ (e ∷ []))) k (record { stat = stored s; prio = prio; sptr = sptr; name = name })
 
 abbrev pub cancelTask : Plain → ℕ → Plain
-cancelTask p k = withSheet (withInstalls p (keep (λ e. not (eqb (e .id) k)) (p .installs)) (p .clock)) k noSheet
+cancelTask p k = withSheet (withInstalls p (keep (λ e. not (eqb (e .id) k)) (p .installs))) k noSheet
 
 abbrev pub post : Plain → ℕ → Plain
 post p k = cond (has (p .sheets k .stat) IWAT) (clears p k IWAT) (sets p k INTQ)
@@ -167,112 +178,106 @@ post p k = cond (has (p .sheets k .stat) IWAT) (clears p k IWAT) (sets p k INTQ)
 abbrev pub waitInterrupt : Plain → ℕ → Plain
 waitInterrupt p c = cond (has (p .sheets c .stat) INTQ) (clears p c INTQ) (sets p c IWAT)
 
+abbrev pub claim : Size → Plain → ℕ → Plain
+claim z p c = withWhose p (lowestFree z p) (Held c)
+
+abbrev pub release : Plain → ℕ → Plain
+release p m = withWhose (withBlock p m noBlock) m Free
+
 abbrev pub prepare : Plain → ℕ → ℕ → ℕ → ℕ → Plain
 prepare p m s prio sptr = withBlock p m (record { stat = s; prio = prio; rptr = p .blocks m .rptr; sptr = sptr })
 
 abbrev pub find : Plain → ℕ → ℕ
 find p name = foremost (λ e. eqb (p .sheets (e .id) .name) name) (p .installs)
 
--- ---- refusals, the lowest first: a test that applies stops the call
-pub data Verdict : Type 0 where
-  Go : Verdict
-  Stop : Refusal → Verdict
+-- ---- refusals that look at the machine, given exactly when; r is the task meant
+abbrev pub no5 : Plain → ℕ → ℕ → Test
+no5 p c m = test NotHeld (not (isHeld c (p .whose m)))
 
-abbrev pub stopIf : Bool → Refusal → Verdict → Verdict
-stopIf true q v = Stop q
-stopIf false q v = v
+abbrev pub no6 : Size → Plain → ℕ → Test
+no6 z p r = test NoSuchTask (outside (z .tasks) r || not (present p r))
 
-abbrev pub outside : ℕ → ℕ → Bool
-outside last n = eqb n 0 || ltb last n
+abbrev pub no7 : Plain → ℕ → Test
+no7 p m = test BadPriority (eqb (number (p .blocks m .prio)) 127)
 
--- refusals 3, 4 and 5 of a call on the message m that c holds; 6 of the task r meant
-abbrev pub holding : Size → Plain → ℕ → ℕ → Verdict → Verdict
-holding z p c m v =
-    stopIf (eqb c 0) NobodyRuns (stopIf (outside (z .messages) m) NoSuchMessage (stopIf (not (isHeld c (p .whose m))) NotHeld v))
+abbrev pub no8 : Size → Plain → ℕ → Test
+no8 z p k = test NotInstallable (outside (z .tasks) k || present p k)
 
-abbrev pub meant : Size → Plain → ℕ → Verdict → Verdict
-meant z p r v = stopIf (outside (z .tasks) r || not (present p r)) NoSuchTask v
+abbrev pub no10 : Size → Plain → ℕ → Test
+no10 z p k = test TaskBusy (not (eqb (first p k) 0) || holdsOne z p k || has (p .sheets k .stat) IWAT)
 
-abbrev pub onward : Size → Plain → ℕ → ℕ → Verdict
-onward z p m r = meant z p r (stopIf (eqb (number (p .blocks m .prio)) 127) BadPriority Go)
+abbrev pub no11 : Size → Plain → Test
+no11 z p = test NoneFree (eqb (lowestFree z p) 0)
 
-abbrev pub badStatus : Status → Bool
-badStatus s = not (has s TCBB) || has s WAIT || has s IWAT || has s BIT5 || has s INTQ || has s MHBS
+abbrev pub no12 : Plain → ℕ → ℕ → Test
+no12 p m r = test NotQueued (not (isQueued r (p .whose m)))
 
-abbrev pub busy : Size → Plain → ℕ → Bool
-busy z p k = not (eqb (first p k) 0) || holdsOne z p k || has (p .sheets k .stat) IWAT
+abbrev pub no13 : Plain → ℕ → ℕ → Test
+no13 p c m = test NotItsSender (not (eqb (p .blocks m .sptr) c))
 
-abbrev pub verdict : Size → Plain → ℕ → Call → Verdict
-verdict z p c (Install k s prio sptr name) =
-    stopIf (not (fifo prio && leb 0x03 prio && leb prio 0xFD)) BadPriority
-    (stopIf (outside (z .tasks) k || present p k) NotInstallable (stopIf (badStatus (stored s)) BadStatus Go))
-verdict z p c (PostInterrupt k) = meant z p k Go
-verdict z p c (Find name) = Go
-verdict z p c (CancelTask k) = stopIf (eqb c 0) NobodyRuns (meant z p k (stopIf (busy z p k) TaskBusy Go))
-verdict z p c Claim = stopIf (eqb c 0) NobodyRuns (stopIf (eqb (lowestFree z p) 0) NoneFree Go)
-verdict z p c (Prepare m s prio sptr) = holding z p c m (stopIf (ltb (z .tasks) sptr) BadSender Go)
-verdict z p c (Release m) = holding z p c m Go
-verdict z p c (Send m r) = holding z p c m (meant z p r Go)
-verdict z p c (SendAndWait m r) = holding z p c m (meant z p r Go)
-verdict z p c (Resend m) = holding z p c m (onward z p m (p .blocks m .rptr))
-verdict z p c (ResendAndWait m) = holding z p c m (onward z p m (p .blocks m .rptr))
-verdict z p c (Forward m r) = holding z p c m (onward z p m r)
-verdict z p c (ForwardAndWait m r) = holding z p c m (onward z p m r)
-verdict z p c (Return m) = holding z p c m (onward z p m (p .blocks m .sptr))
-verdict z p c (ReturnAndWait m) = holding z p c m (onward z p m (p .blocks m .sptr))
-verdict z p c Receive = stopIf (eqb c 0) NobodyRuns Go
-verdict z p c ReceiveAndWait = stopIf (eqb c 0) NobodyRuns Go
-verdict z p c (CancelMessage m r) =
-    stopIf (eqb c 0) NobodyRuns (stopIf (outside (z .messages) m) NoSuchMessage
-    (meant z p r (stopIf (not (isQueued r (p .whose m))) NotQueued (stopIf (not (eqb (p .blocks m .sptr) c)) NotItsSender Go))))
-verdict z p c WaitForInterrupt = stopIf (eqb c 0) NobodyRuns Go
-
--- ---- the body of a call, and its value
-pub record Done : Type 0 where
+-- ---- the nineteen calls, a row each: the refusals below 15, ascending; the value, and the machine before dispatch, where none applies
+pub record Played : Type 0 where
+  pub refusals : List Test
   pub value : ℕ
   pub plain : Plain
 
-abbrev pub done : ℕ → Plain → Done
-done v p = record { value = v; plain = p }
+abbrev pub played : List Test → ℕ → Plain → Played
+played tests v p = record { refusals = tests; value = v; plain = p }
 
-abbrev pub body : Size → Plain → ℕ → Call → Done
-body z p c (Install k s prio sptr name) = done 0 (install p k s prio sptr name)
-body z p c (PostInterrupt k) = done 0 (post p k)
-body z p c (Find name) = done (find p name) p
-body z p c (CancelTask k) = done 0 (cancelTask p k)
-body z p c Claim = done (lowestFree z p) (withWhose p (lowestFree z p) (Held c))
-body z p c (Prepare m s prio sptr) = done 0 (prepare p m s prio sptr)
-body z p c (Release m) = done 0 (withWhose (withBlock p m noBlock) m Free)
-body z p c (Send m r) = done 0 (place (addressed p c m r) m r)
-body z p c (SendAndWait m r) = done 0 (waits c (place (addressed p c m r) m r))
-body z p c (Resend m) = done 0 (place p m (p .blocks m .rptr))
-body z p c (ResendAndWait m) = done 0 (waits c (place p m (p .blocks m .rptr)))
-body z p c (Forward m r) = done 0 (place p m r)
-body z p c (ForwardAndWait m r) = done 0 (waits c (place p m r))
-body z p c (Return m) = done 0 (place p m (p .blocks m .sptr))
-body z p c (ReturnAndWait m) = done 0 (waits c (place p m (p .blocks m .sptr)))
-body z p c Receive = done (first p c) (take p c (first p c))
-body z p c ReceiveAndWait = done 0 (waits c p)
-body z p c (CancelMessage m r) = done 0 (cancelMessage p c m r)
-body z p c WaitForInterrupt = done 0 (waitInterrupt p c)
+-- send; resend, forward, return: the message is placed as it is; and wait: the same, and then c waits
+abbrev pub sends : Size → Plain → ℕ → ℕ → ℕ → Played
+sends z p c m r = played (no3 c ∷ no4 z m ∷ no5 p c m ∷ no6 z p r ∷ []) 0 (place (addressed p c m r) m r)
+
+abbrev pub passesOn : Size → Plain → ℕ → ℕ → ℕ → Played
+passesOn z p c m r = played (no3 c ∷ no4 z m ∷ no5 p c m ∷ no6 z p r ∷ no7 p m ∷ []) 0 (place p m r)
+
+abbrev pub andWait : ℕ → Played → Played
+andWait c d = played (d .refusals) (d .value) (waits c (d .plain))
+
+abbrev pub play : Size → Plain → ℕ → Call → Played
+play z p c (Install k s prio sptr name) = played (no7Install prio ∷ no8 z p k ∷ no9 s ∷ []) 0 (install p k s prio sptr name)
+play z p c (PostInterrupt k) = played (no6 z p k ∷ []) 0 (post p k)
+play z p c (Find name) = played [] (find p name) p
+play z p c (CancelTask k) = played (no3 c ∷ no6 z p k ∷ no10 z p k ∷ []) 0 (cancelTask p k)
+play z p c Claim = played (no3 c ∷ no11 z p ∷ []) (lowestFree z p) (claim z p c)
+play z p c (Prepare m s prio sptr) = played (no3 c ∷ no4 z m ∷ no5 p c m ∷ no14 z sptr ∷ []) 0 (prepare p m s prio sptr)
+play z p c (Release m) = played (no3 c ∷ no4 z m ∷ no5 p c m ∷ []) 0 (release p m)
+play z p c (Send m r) = sends z p c m r
+play z p c (SendAndWait m r) = andWait c (sends z p c m r)
+play z p c (Resend m) = passesOn z p c m (p .blocks m .rptr)
+play z p c (ResendAndWait m) = andWait c (passesOn z p c m (p .blocks m .rptr))
+play z p c (Forward m r) = passesOn z p c m r
+play z p c (ForwardAndWait m r) = andWait c (passesOn z p c m r)
+play z p c (Return m) = passesOn z p c m (p .blocks m .sptr)
+play z p c (ReturnAndWait m) = andWait c (passesOn z p c m (p .blocks m .sptr))
+play z p c Receive = played (no3 c ∷ []) (first p c) (take p c (first p c))
+play z p c ReceiveAndWait = played (no3 c ∷ []) 0 (waits c p)
+play z p c (CancelMessage m r) = played (no3 c ∷ no4 z m ∷ no6 z p r ∷ no12 p m r ∷ no13 p c m ∷ []) 0 (cancelMessage p c m r)
+play z p c WaitForInterrupt = played (no3 c ∷ []) 0 (waitInterrupt p c)
 
 -- ---- dispatch: a running task that is due a message is handed its first one
 pub record Result : Type 0 where
   pub answer : Answer
   pub plain : Plain
 
-abbrev pub deliver : Plain → Done → ℕ → ℕ → Result
-deliver p d c zero = record { answer = Refused NothingToDeliver; plain = p }
-deliver p d c (suc m) = record { answer = Accepted (d .value) c (suc m); plain = clears (take (d .plain) c (suc m)) c MHBS }
+abbrev pub accepted : ℕ → ℕ → ℕ → Plain → Result
+accepted v c m p = record { answer = Accepted v c m; plain = p }
 
-abbrev pub dispatch : Plain → Done → Result
+abbrev pub refused : Plain → Refusal → Result
+refused p q = record { answer = Refused q; plain = p }
+
+abbrev pub deliver : Plain → Played → ℕ → ℕ → Result
+deliver p d c zero = refused p NothingToDeliver
+deliver p d c (suc m) = accepted (d .value) c (suc m) (clears (take (d .plain) c (suc m)) c MHBS)
+
+abbrev pub dispatch : Plain → Played → Result
 dispatch p d = let c = running (d .plain) in
-    cond (has (d .plain .sheets c .stat) MHBS) (deliver p d c (first (d .plain) c)) (record { answer = Accepted (d .value) c 0; plain = d .plain })
+    cond (has (d .plain .sheets c .stat) MHBS) (deliver p d c (first (d .plain) c)) (accepted (d .value) c 0 (d .plain))
 
 -- ---- a call
 abbrev pub judged : Plain → Verdict → Result → Result
 judged p Go o = o
-judged p (Stop q) o = record { answer = Refused q; plain = p }
+judged p (Stop q) o = refused p q
 
 abbrev pub step : Size → Plain → Call → Result
-step z p call = judged p (verdict z p (running p) call) (dispatch p (body z p (running p) call))
+step z p call = let d = play z p (running p) call in judged p (lowest (d .refusals)) (dispatch p d)

@@ -1,0 +1,223 @@
+-- Each call on a board and on its machine: the same refusal, and where none is given the same value and again a board and its machine.
+-- A call more costs a row of calls-alike.
+-- Assumes nothing.
+use mathlib.Core.Path.{_≡_, refl, sym}
+use mathlib.Core.Bool.{Bool, true, false}
+use mathlib.Core.List.{List, [], _∷_}
+use Prim.Native.Nat.{ℕ}
+use borrow.Author.Tests.{eqb-false, not-false}
+use Rattle.board.specs.declared.numbers.Size.{Size}
+use Rattle.board.specs.declared.places.Place.the-variants.{HeldBy}
+use Rattle.board.specs.Numbers.{outside, taskNo}
+use Rattle.board.specs.Places.{isQueuedAt}
+use Rattle.board.specs.Board.{Board, message, place}
+use Rattle.board.proofs.Pieces.{outside-within}
+use Rattle.paper.specs.declared.call.Call.{Call}
+use Rattle.paper.specs.declared.call.Call.the-variants.{Install, PostInterrupt, Find, CancelTask, Claim, Prepare, Release}
+use Rattle.paper.specs.declared.call.Call.the-variants.{Send, SendAndWait, Resend, ResendAndWait, Forward, ForwardAndWait, Return, ReturnAndWait}
+use Rattle.paper.specs.declared.call.Call.the-variants.{Receive, ReceiveAndWait, CancelMessage, WaitForInterrupt}
+use Rattle.paper.specs.Rules.{present, running}
+use Rattle.paper.specs.Effects.{lowestFree, waits}
+use Rattle.paper.specs.Refusals.{Test, no3, no4, no5, no6, no7, no7Install, no8, no9, no10, no11, no12, no13, no14, own, Go, lowest}
+use Rattle.paper.specs.Step.{Done, done, body}
+use Rattle.linked.specs.Linked.{Numbered}
+use Rattle.linked.proofs.Tests.{says-isQueuedAt}
+use Rattle.kept.specs.Stands.{Stands}
+use Rattle.kept.specs.After.{placed, sent, orderAfter, queuesAfter}
+use Rattle.kept.specs.Claims.{Sizes}
+use Rattle.kept.proofs.Reading.{runner-says, go-passed, neither, runner-passed, held-row, task-passed}
+use Rattle.kept.proofs.Waiting.{task-numbered}
+use Rattle.kept.proofs.Placing.{send-stands, forward-stands}
+use Rattle.history.specs.Ranking.{Entry}
+use Rattle.history.specs.Machine as plain
+use Rattle.history.specs.Machine.{Plain, Played}
+use Rattle.history.proofs.Named.{Named}
+use Rattle.history.proofs.Machines.{plainOf}
+use Rattle.history.proofs.Asked.{held-alike, queued-alike, asked-find, asked-free, asked-holds, first-mptr, first-walked}
+use Rattle.history.proofs.Same.{Same, same-at, same-holds, post-same, wait-same, claim-same, release-same, prepare-same, install-same, cancel-same}
+use Rattle.history.proofs.Placed.{forward-same, send-same, waits-same}
+use Rattle.history.proofs.Taken.{take-same, cancel-message-same}
+
+-- the refusals tests and the body d on a board come to what the row e does on its machine; q and f are the lists afterwards
+pub record Alike (z : Size) (tests : List Test) (d : Done) (q : List ℕ) (f : ℕ → List ℕ) (e : Played) : Type 0 where
+  pub verdict : lowest (e .refusals) ≡ lowest tests
+  pub value : lowest tests ≡ Go → d .value ≡ e .value
+  pub same : lowest tests ≡ Go → Same z (d .board) q f (e .plain)
+
+-- ---- one test before others
+-- what follows it is asked where it does not apply
+lowest-then : (t : Test) (l k : List Test) → (t .applies ≡ false → lowest l ≡ lowest k) → lowest (t ∷ l) ≡ lowest (t ∷ k)
+lowest-then t l k h = step (t .applies) refl
+  where
+    step : (a : Bool) → t .applies ≡ a → lowest (t ∷ l) ≡ lowest (t ∷ k)
+    step true e = rw (e, lowest)
+    step false e = rw (e, lowest) (h e)
+
+-- ---- a wait
+-- on any board that stands
+waits-after : (z : Size) (b : Board) (q : List ℕ) (f : ℕ → List ℕ) (p : Plain) → Sizes z → Stands z b q f → (c : ℕ)
+    → Numbered (z .tasks) c → Same z b q f p → Same z (waits c b) q f (plain.waits c p)
+waits-after z b q f p a h c d t =
+    same-holds z b q f p (λ (x : Plain). Same z (waits c b) q f (plain.waits c x)) t
+    (λ l s n w. waits-same z b q f a h l s n w c d)
+
+-- after a call whose row passes 3
+and-wait : (z : Size) (b : Board) (q : List ℕ) (f : ℕ → List ℕ) (c : ℕ) (tests : List Test) (e : Played) → Sizes z
+    → (lowest tests ≡ Go → Stands z b q f × Numbered (z .tasks) c) → Alike z tests (done 0 b) q f e
+    → Alike z tests (done 0 (waits c b)) q f (plain.andWait c e)
+and-wait z b q f c tests e a h t = record {
+  verdict = t .verdict;
+  value = t .value;
+  same = λ g. waits-after z b q f (e .plain) a (h g .0) c (h g .1) (t .same g);
+}
+
+module _ (z : Size) (b : Board) (q : List ℕ) (f : ℕ → List ℕ) (a : Sizes z) (h : Stands z b q f)
+    (l s : List Entry) (n : ℕ) (w : Named z (plainOf b l s n) q f) where
+  abbrev c : ℕ
+  c = running z b
+
+  abbrev p : Plain
+  p = plainOf b l s n
+
+  -- ---- what a row says that refuses nothing
+  -- 3: the running task is one of the board's
+  runner-numbered : no3 c .applies ≡ false → Numbered (z .tasks) c
+  runner-numbered e = task-numbered z b q f h c (runner-says z b (runner-passed c e) .0)
+
+  -- 3 alone
+  runner-alone : lowest (no3 c ∷ []) ≡ Go → Numbered (z .tasks) c
+  runner-alone g = runner-numbered (go-passed (no3 c) [] g .0)
+
+  -- 3 to 6: it holds the message, and the task meant is one of the board's
+  sender-row : (m r : ℕ) (tests : List Test) → lowest (no3 c ∷ no4 z m ∷ no5 b c m ∷ no6 z b r ∷ tests) ≡ Go
+      → (place b m ≡ HeldBy (taskNo c)) × Numbered (z .tasks) r × Numbered (z .tasks) c
+  sender-row m r tests g =
+      let t = held-row z b c m (no6 z b r ∷ tests) g in (
+        t .1,
+        task-passed z b r (go-passed (no6 z b r) tests (t .2) .0) .0,
+        runner-numbered (go-passed (no3 c) (no4 z m ∷ no5 b c m ∷ no6 z b r ∷ tests) g .0),
+      )
+
+  -- 7, 8 and 9: the task to install is one of the board's, and absent
+  installable : (k t prio : ℕ) → lowest (no7Install prio ∷ no8 z b k ∷ no9 t ∷ []) ≡ Go
+      → Numbered (z .tasks) k × (present b k ≡ false)
+  installable k t prio g =
+      let u = go-passed (no8 z b k) (no9 t ∷ []) (go-passed (no7Install prio) (no8 z b k ∷ no9 t ∷ []) g .1) in
+      let d = neither (outside (z .tasks) k) (present b k) (u .0) in
+      (outside-within (z .tasks) k (d .0), d .1)
+
+  -- ---- messages placed
+  sends : (m r : ℕ) → Alike z (own z b c (Send m r)) (body z b c (Send m r)) q (sent b c f m r) (plain.sends z p c m r)
+  sends m r = record {
+    verdict = rw (held-alike c (place b m));
+    value = λ g. refl;
+    same = λ g. let t = sender-row m r [] g in send-same z b q f a h l s n w c m r (t .0) (t .1);
+  }
+
+  passes-on : (m r : ℕ) → Alike z (own z b c (Forward m r)) (body z b c (Forward m r)) q (placed b f m (message b m .prio) r)
+      (plain.passesOn z p c m r)
+  passes-on m r = record {
+    verdict = rw (held-alike c (place b m));
+    value = λ g. refl;
+    same = λ g. let t = sender-row m r (no7 b m ∷ []) g in forward-same z b q f a h l s n w c m r (t .0) (t .1);
+  }
+
+  sends-waits : (m r : ℕ) → Alike z (own z b c (SendAndWait m r)) (body z b c (SendAndWait m r)) q (sent b c f m r)
+      (plain.andWait c (plain.sends z p c m r))
+  sends-waits m r =
+      and-wait z _ q _ c (own z b c (Send m r)) (plain.sends z p c m r) a
+      (λ g. (send-stands z b q f a h m r g .0, sender-row m r [] g .2)) (sends m r)
+
+  passes-on-waits : (m r : ℕ) → Alike z (own z b c (ForwardAndWait m r)) (body z b c (ForwardAndWait m r)) q
+      (placed b f m (message b m .prio) r) (plain.andWait c (plain.passesOn z p c m r))
+  passes-on-waits m r =
+      and-wait z _ q _ c (own z b c (Forward m r)) (plain.passesOn z p c m r) a
+      (λ g. (forward-stands z b q f a h m r g .0, sender-row m r (no7 b m ∷ []) g .2)) (passes-on m r)
+
+  -- ---- a message cancelled
+  cancellable : (m r : ℕ) → lowest (own z b c (CancelMessage m r)) ≡ Go
+      → (isQueuedAt r (place b m) ≡ true) × Numbered (z .tasks) r
+  cancellable m r g =
+      let t = go-passed (no4 z m) (no6 z b r ∷ no12 b m r ∷ no13 b c m ∷ [])
+      (go-passed (no3 c) (no4 z m ∷ no6 z b r ∷ no12 b m r ∷ no13 b c m ∷ []) g .1) in
+      let u = go-passed (no6 z b r) (no12 b m r ∷ no13 b c m ∷ []) (t .1) in
+      let v = go-passed (no12 b m r) (no13 b c m ∷ []) (u .1) in
+      (not-false (isQueuedAt r (place b m)) (v .0), task-passed z b r (u .0) .0)
+
+  -- ---- a task cancelled
+  -- where 6 has passed, so does 10 if it does on the machine
+  busy-row : (k : ℕ) → lowest (plain.play z p c (CancelTask k) .refusals) ≡ lowest (own z b c (CancelTask k))
+  busy-row k =
+      lowest-then (no3 c) (no6 z b k ∷ plain.no10 z p k ∷ []) (no6 z b k ∷ no10 b k ∷ []) (λ e.
+      lowest-then (no6 z b k) (plain.no10 z p k ∷ []) (no10 b k ∷ []) (λ u.
+      rw (first-mptr z b q f a h l s n w k (task-passed z b k u .0), asked-holds z b q f h l s n k)))
+
+  -- ---- each call
+  pub calls-alike : (call : Call) → let c = running z b in
+      Alike z (own z b c call) (body z b c call) (orderAfter b q call) (queuesAfter b c f call) (plain.play z (plainOf b l s n) c call)
+  calls-alike (Install k t prio sptr name) = record {
+    verdict = refl;
+    value = λ g. refl;
+    same = λ g. let d = installable k t prio g in install-same z b q f a h l s n w k t prio sptr name (d .0) (d .1);
+  }
+  calls-alike (PostInterrupt k) = record {
+    verdict = refl;
+    value = λ g. refl;
+    same = λ g. post-same z b q f a h l s n w k (task-passed z b k (go-passed (no6 z b k) [] g .0) .0);
+  }
+  calls-alike (Find name) = record {
+    verdict = refl;
+    value = λ g. sym (asked-find z b q f a h l s n w name);
+    same = λ g. same-at l s n refl w;
+  }
+  calls-alike (CancelTask k) = record {
+    verdict = busy-row k;
+    value = λ g. refl;
+    same = λ g. let t = go-passed (no6 z b k) (no10 b k ∷ []) (go-passed (no3 c) (no6 z b k ∷ no10 b k ∷ []) g .1) in
+        cancel-same z b q f a h l s n w k (task-passed z b k (t .0) .0);
+  }
+  calls-alike Claim = record {
+    verdict = rw (asked-free z b q f h l s n);
+    value = λ g. sym (asked-free z b q f h l s n);
+    same = λ g. let t = go-passed (no11 b) [] (go-passed (no3 c) (no11 b ∷ []) g .1) in
+        claim-same z b q f a h l s n w c (eqb-false (lowestFree b) 0 (t .0));
+  }
+  calls-alike (Prepare m t prio sptr) = record {
+    verdict = rw (held-alike c (place b m));
+    value = λ g. refl;
+    same = λ g. prepare-same z b q f a h l s n w c m (held-row z b c m (no14 z sptr ∷ []) g .1) t prio sptr;
+  }
+  calls-alike (Release m) = record {
+    verdict = rw (held-alike c (place b m));
+    value = λ g. refl;
+    same = λ g. release-same z b q f a h l s n w c m (held-row z b c m [] g .1);
+  }
+  calls-alike (Send m r) = sends m r
+  calls-alike (SendAndWait m r) = sends-waits m r
+  calls-alike (Resend m) = passes-on m (message b m .rptr)
+  calls-alike (ResendAndWait m) = passes-on-waits m (message b m .rptr)
+  calls-alike (Forward m r) = passes-on m r
+  calls-alike (ForwardAndWait m r) = passes-on-waits m r
+  calls-alike (Return m) = passes-on m (message b m .sptr)
+  calls-alike (ReturnAndWait m) = passes-on-waits m (message b m .sptr)
+  calls-alike Receive = record {
+    verdict = refl;
+    value = λ g. sym (first-walked z b q f a h l s n w c (runner-alone g));
+    same = λ g. take-same z b q f a h l s n w c (runner-alone g) _ refl;
+  }
+  calls-alike ReceiveAndWait = record {
+    verdict = refl;
+    value = λ g. refl;
+    same = λ g. waits-same z b q f a h l s n w c (runner-alone g);
+  }
+  calls-alike (CancelMessage m r) = record {
+    verdict = rw (queued-alike r (place b m));
+    value = λ g. refl;
+    same = λ g. let t = cancellable m r g in
+        cancel-message-same z b q f a h l s n w c m r (says-isQueuedAt r (place b m) .0 (t .0)) (t .1);
+  }
+  calls-alike WaitForInterrupt = record {
+    verdict = refl;
+    value = λ g. refl;
+    same = λ g. wait-same z b q f a h l s n w c (runner-alone g);
+  }
