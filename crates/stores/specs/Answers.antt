@@ -2,6 +2,8 @@
 --   heldOf z b c w         c and the message w, or the lowest of 3, 4 and 5 that applies
 --   presentMeant z b w     the task w, unless 6 applies
 --   Stored                 what a body comes to: its value, whether who is ready may have changed, and the bytes
+--   withNobody d           the answer to a body where nobody is dispatched
+--   Runs z l c             the bytes l hold a whole board, and c is who runs on it, if anyone: what a body asks for
 --   bodyBy v d             a body with this verdict: done, or stopped
 --   bytesBy v l after      the bytes with this verdict: those afterwards, or those before
 --   Reply, Makes           what an inner step answers and leaves; a contract's one clause
@@ -9,16 +11,19 @@
 use mathlib.Core.Path.{_≡_}
 use mathlib.Core.Bool.{Bool, true, false, cond, not, _||_}
 use mathlib.Core.List.{List, [], _∷_}
-use Prim.Native.Nat.{ℕ}
+use Prim.Native.Nat.{ℕ, _≤_}
+use lib.ListN.{length}
 use Rattle.board.specs.declared.numbers.Size.{Size}
 use Rattle.board.specs.declared.numbers.TaskNo.{TaskNo}
 use Rattle.board.specs.declared.numbers.MsgNo.{MsgNo}
 use Rattle.board.specs.declared.numbers.TaskMeant.{TaskMeant}
 use Rattle.board.specs.declared.numbers.TaskMeant.the-variants.{Task, NoTask}
-use Rattle.board.specs.Numbers.{outside, taskNo}
-use Rattle.board.specs.Board.{Board}
+use Rattle.board.specs.Numbers.{outside, taskNo, taskMeant}
+use Rattle.board.specs.Board.{Board, boardOf, total}
 use Rattle.paper.specs.declared.answer.Refusal.{Refusal}
-use Rattle.paper.specs.Rules.{present}
+use Rattle.paper.specs.declared.answer.Answer.{Answer}
+use Rattle.paper.specs.declared.answer.Answer.the-variants.{Accepted, Refused}
+use Rattle.paper.specs.Rules.{present, running}
 use Rattle.paper.specs.Refusals.{no3, no4, no5, Verdict, Go, Stop, lowest}
 use Rattle.stores.specs.declared.Held.{Held}
 use Rattle.stores.specs.declared.Held.the-variants as held
@@ -36,6 +41,10 @@ heldOf z b c w = heldBy (lowest (no3 c ∷ no4 z w ∷ no5 b c w ∷ [])) c w
 abbrev pub presentMeant : Size → Board → ℕ → TaskMeant
 presentMeant z b w = cond (outside (z .tasks) w || not (present b w)) NoTask (Task (taskNo w))
 
+-- the bytes hold a whole board, on which c runs, or nobody
+abbrev pub Runs : Size → List ℕ → TaskMeant → Type 0
+Runs z l c = (total z ≤ length l) × (c ≡ taskMeant z (running z (boardOf z l)))
+
 -- ---- a body
 pub record Stored : Type 0 where
   pub value : ℕ
@@ -48,6 +57,10 @@ leaves v l = record { value = v; stirs = true; after = l }
 
 abbrev pub rests : ℕ → List ℕ → Stored
 rests v l = record { value = v; stirs = false; after = l }
+
+abbrev pub withNobody : Body → Answer
+withNobody (Done v stirs) = Accepted v 0 0
+withNobody (Stopped q) = Refused q
 
 -- ---- by a verdict
 abbrev pub bodyBy : Verdict → Stored → Body

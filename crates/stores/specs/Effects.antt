@@ -30,9 +30,12 @@ abbrev pub placeAt : Size → List ℕ → ℕ → Message → ℕ → List ℕ
 placeAt z l m u r = woken z (putPlace z (queueInto z l m u r) m (QueuedAt (taskNo r))) r
 
 -- ---- Send: the message as it is addressed. Resend, forward, return: the message as it is
+-- c, of PRIO own, addresses the record u to r
+abbrev pub addressedAs : Message → ℕ → ℕ → ℕ → Message
+addressedAs u own c r = withSptr (withRptr (withPrio u (ownPrio (u .prio) own)) r) (cond (eqb (u .sptr) 0) c (u .sptr))
+
 abbrev pub addressed : Board → ℕ → ℕ → ℕ → Message
-addressed b c m r = let u = message b m in
-    withSptr (withRptr (withPrio u (ownPrio (u .prio) (task b c .prio))) r) (cond (eqb (u .sptr) 0) c (u .sptr))
+addressed b c m r = addressedAs (message b m) (task b c .prio) c r
 
 abbrev pub send : Size → List ℕ → ℕ → ℕ → ℕ → List ℕ
 send z l c m r = placeAt z l m (addressed (boardOf z l) c m r) r

@@ -1,8 +1,11 @@
 // CODE. What a call has come to before dispatch, as enums, and beneath them (specs/) what code stores for each call, as one list of bytes
 // after another. Contracts of code cite this crate; that the stores come to document 01's effects is proved above it (stored), so no
 // reader needs to believe it.
+ghost use mathlib.Core.Path.{_≡_};
+ghost use Rattle.stores.specs.Answers.{withNobody};
 use board::numbers::MsgNo;
 use board::numbers::TaskNo;
+use paper::answer::Answer;
 use paper::answer::Refusal;
 
 // The running task and a message that it holds.
@@ -15,4 +18,20 @@ pub enum Held {
 pub enum Body {
     Done { value: u16, stirs: bool },
     Stopped(Refusal),
+}
+
+impl Body {
+    // The answer where nobody is dispatched.
+    pub fn with_nobody(self) -> Answer
+        ensures { λ res. ⌜ res ≡ withNobody self ⌝ }
+    {
+        match self {
+            Body::Done { value, stirs: _ } => Answer::Accepted {
+                value: value,
+                running: 0,
+                delivered: 0,
+            },
+            Body::Stopped(q) => Answer::Refused(q),
+        }
+    }
 }
