@@ -1,16 +1,20 @@
 -- The number that a word means, if the board has it: a word from 1 to the last means itself, any other means none.
 -- Assumes nothing.
-use mathlib.Core.Path.{_≡_, refl, sym}
+use mathlib.Core.Path.{_≡_, refl, sym, ap, _∙_}
+use mathlib.Core.Logic.{_≢_}
 use mathlib.Core.Bool.{Bool, true, false, cond}
-use Prim.Native.Nat.{ℕ}
+use Prim.Native.Nat.{ℕ, _≤_}
 use native.Mathlib.Omega.{arith}
+use lib.Dec.{eqb}
+use borrow.Author.Tests.{eqb-true, eqb-false}
 use Rattle.board.specs.declared.numbers.Size.{Size}
 use Rattle.board.specs.declared.numbers.TaskNo.{TaskNo}
 use Rattle.board.specs.declared.numbers.MsgNo.{MsgNo}
 use Rattle.board.specs.declared.numbers.TaskMeant.the-variants.{Task, NoTask}
 use Rattle.board.specs.declared.numbers.MessageMeant.{MessageMeant}
 use Rattle.board.specs.declared.numbers.MessageMeant.the-variants.{Message, NoMessage}
-use Rattle.board.specs.Numbers.{outside, taskNo, taskMeant, messageMeant}
+use Rattle.board.specs.Numbers.{outside, taskNo, taskMeant, messageMeant, numberOfTask, numberOfMessage, onBoard}
+use Rattle.board.proofs.Pieces.{within-outside}
 
 -- ---- a choice is known by its outcome
 cond-second : {A : Type 0} (t : Bool) (x y v : A) → cond t x y ≡ v → (x ≡ v → ⊥) → (t ≡ false) × (y ≡ v)
@@ -52,3 +56,41 @@ pub messageMeant-none : (z : Size) (w : ℕ) → messageMeant z w ≡ NoMessage 
 messageMeant-none z w e =
     let m : MsgNo = record { 0 = w } in
     cond-first (outside (z .messages) w) NoMessage (Message m) NoMessage e (λ f. no-message m (sym f))
+
+-- ---- the number of what a word means
+-- is the word where the board has it, else 0
+pub number-of-task : (z : Size) (w : ℕ) → numberOfTask (taskMeant z w) ≡ onBoard (z .tasks) w
+number-of-task z w = go (outside (z .tasks) w)
+  where
+    go : (t : Bool) → numberOfTask (cond t NoTask (Task (taskNo w))) ≡ cond t 0 w
+    go true = refl
+    go false = refl
+
+pub number-of-message : (z : Size) (w : ℕ) → numberOfMessage (messageMeant z w) ≡ onBoard (z .messages) w
+number-of-message z w = go (outside (z .messages) w)
+  where
+    go : (t : Bool) → numberOfMessage (cond t NoMessage (Message (record { 0 = w }))) ≡ cond t 0 w
+    go true = refl
+    go false = refl
+
+-- a number up to the last is itself, and so is 0
+pub onBoard-within : (last w : ℕ) → outside last w ≡ false → onBoard last w ≡ w
+onBoard-within last w e = ap (λ (t : Bool). cond t 0 w) e
+
+pub onBoard-zero : (last w : ℕ) → w ≡ 0 → onBoard last w ≡ 0
+onBoard-zero last w e = go (outside last w)
+  where
+    go : (t : Bool) → cond t 0 w ≡ 0
+    go true = refl
+    go false = e
+
+pub onBoard-outside : (last w : ℕ) → outside last w ≡ true → onBoard last w ≡ 0
+onBoard-outside last w e = ap (λ (t : Bool). cond t 0 w) e
+
+-- so a word that is 0 or a number up to the last is itself
+pub onBoard-most : (last w : ℕ) → w ≤ last → onBoard last w ≡ w
+onBoard-most last w h = go (eqb w 0) refl
+  where
+    go : (t : Bool) → eqb w 0 ≡ t → onBoard last w ≡ w
+    go true e = let f : w ≡ 0 = eqb-true w 0 e in onBoard-zero last w f ∙ sym f
+    go false e = let f : w ≢ 0 = eqb-false w 0 e in onBoard-within last w (within-outside last w (omega arith) h)

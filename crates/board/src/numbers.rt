@@ -1,7 +1,7 @@
 // The size of a board, and the two kinds of numbers. A task number or a message number is made after its range test only, so a link,
 // a place or an argument that names nothing never becomes one; and one kind is never taken for the other.
 ghost use mathlib.Core.Path.{_≡_};
-ghost use Rattle.board.specs.Numbers.{taskMeant, messageMeant};
+ghost use Rattle.board.specs.Numbers.{taskMeant, messageMeant, numberOfTask, numberOfMessage};
 ghost use Rattle.board.specs.Board.{total};
 
 // How many tasks and messages a board has.
@@ -79,5 +79,29 @@ impl MsgNo {
         ensures { λ res. ⌜ res ≡ self .0 ⌝ }
     {
         self.0
+    }
+}
+
+impl TaskMeant {
+    // The number, 0 for no task: a link as it is stored.
+    pub fn number(self) -> u16
+        ensures { λ res. ⌜ res ≡ numberOfTask self ⌝ }
+    {
+        match self {
+            TaskMeant::Task(k) => k.number(),
+            TaskMeant::NoTask => 0,
+        }
+    }
+}
+
+impl MessageMeant {
+    // The number, 0 for no message: a link as it is stored.
+    pub fn number(self) -> u16
+        ensures { λ res. ⌜ res ≡ numberOfMessage self ⌝ }
+    {
+        match self {
+            MessageMeant::Message(m) => m.number(),
+            MessageMeant::NoMessage => 0,
+        }
     }
 }

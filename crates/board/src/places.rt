@@ -1,7 +1,7 @@
 // Where a message is: the place byte, decoded. A byte that names no task of the board is kept as it is, so nothing is lost.
 ghost use mathlib.Core.Path.{_≡_};
 ghost use Prim.Native.Nat.{_%_};
-ghost use Rattle.board.specs.Places.{placeOf, placeByte};
+ghost use Rattle.board.specs.Places.{placeOf, placeByte, isHeldBy, isQueuedAt};
 use crate::numbers::Size;
 use crate::numbers::TaskMeant;
 use crate::numbers::TaskNo;
@@ -44,6 +44,30 @@ impl Place {
             Place::HeldBy(k) => (k.number() % 256) as u8,
             Place::QueuedAt(r) => ((64 + r.number() as u32) % 256) as u8,
             Place::Nowhere(p) => p,
+        }
+    }
+
+    // In task c's hands.
+    pub fn is_held_by(self, c: TaskNo) -> bool
+        ensures { λ res. ⌜ res ≡ isHeldBy (c .0) self ⌝ }
+    {
+        match self {
+            Place::Free => false,
+            Place::HeldBy(k) => k.number() == c.number(),
+            Place::QueuedAt(_) => false,
+            Place::Nowhere(_) => false,
+        }
+    }
+
+    // In the queue of task r.
+    pub fn is_queued_at(self, r: TaskNo) -> bool
+        ensures { λ res. ⌜ res ≡ isQueuedAt (r .0) self ⌝ }
+    {
+        match self {
+            Place::Free => false,
+            Place::HeldBy(_) => false,
+            Place::QueuedAt(k) => k.number() == r.number(),
+            Place::Nowhere(_) => false,
         }
     }
 }

@@ -1,7 +1,14 @@
-// Task and message records by value (manual 3.2 and 3.3): a record hands back itself with one field changed.
+// Task and message records by value (manual 3.2 and 3.3): a record says where its links lead, and hands back itself with one
+// field changed. A link goes in and comes out as the task or message it means; a word of SPTR or NAME is any word.
 ghost use mathlib.Core.Path.{_≡_};
+ghost use Rattle.board.specs.Numbers.{taskMeant, messageMeant, numberOfTask, numberOfMessage};
 ghost use Rattle.board.specs.Status.{isPresent, isReady, stored};
 ghost use Rattle.board.specs.Records.{noTask, noMessage, taskWithStat, taskWithLink, taskWithMptr, withStat, withPrio, withLink, withRptr, withSptr};
+use crate::numbers::MessageMeant;
+use crate::numbers::MsgNo;
+use crate::numbers::Size;
+use crate::numbers::TaskMeant;
+use crate::numbers::TaskNo;
 use crate::status::Status;
 
 pub struct Task {
@@ -57,14 +64,42 @@ impl Task {
         self
     }
 
-    pub fn with_link(mut self, w: u16) -> Task
+    // The next task of the task queue: LINK.
+    pub fn next(self, z: Size) -> TaskMeant
+        ensures { λ res. ⌜ res ≡ taskMeant z (self .link) ⌝ }
+    {
+        TaskNo::meant(z, self.link)
+    }
+
+    // The first message of its queue: MPTR.
+    pub fn first(self, z: Size) -> MessageMeant
+        ensures { λ res. ⌜ res ≡ messageMeant z (self .mptr) ⌝ }
+    {
+        MsgNo::meant(z, self.mptr)
+    }
+
+    pub fn with_link(mut self, next: TaskMeant) -> Task
+        ensures { λ res. ⌜ res ≡ taskWithLink self (numberOfTask next) ⌝ }
+    {
+        self.link = next.number();
+        self
+    }
+
+    pub fn with_mptr(mut self, m: MessageMeant) -> Task
+        ensures { λ res. ⌜ res ≡ taskWithMptr self (numberOfMessage m) ⌝ }
+    {
+        self.mptr = m.number();
+        self
+    }
+
+    pub fn with_link_word(mut self, w: u16) -> Task
         ensures { λ res. ⌜ res ≡ taskWithLink self w ⌝ }
     {
         self.link = w;
         self
     }
 
-    pub fn with_mptr(mut self, w: u16) -> Task
+    pub fn with_mptr_word(mut self, w: u16) -> Task
         ensures { λ res. ⌜ res ≡ taskWithMptr self w ⌝ }
     {
         self.mptr = w;
@@ -100,14 +135,35 @@ impl Message {
         self
     }
 
-    pub fn with_link(mut self, w: u16) -> Message
+    // The next message of the queue: LINK.
+    pub fn next(self, z: Size) -> MessageMeant
+        ensures { λ res. ⌜ res ≡ messageMeant z (self .link) ⌝ }
+    {
+        MsgNo::meant(z, self.link)
+    }
+
+    pub fn with_link(mut self, next: MessageMeant) -> Message
+        ensures { λ res. ⌜ res ≡ withLink self (numberOfMessage next) ⌝ }
+    {
+        self.link = next.number();
+        self
+    }
+
+    pub fn with_rptr(mut self, r: TaskNo) -> Message
+        ensures { λ res. ⌜ res ≡ withRptr self (r .0) ⌝ }
+    {
+        self.rptr = r.number();
+        self
+    }
+
+    pub fn with_link_word(mut self, w: u16) -> Message
         ensures { λ res. ⌜ res ≡ withLink self w ⌝ }
     {
         self.link = w;
         self
     }
 
-    pub fn with_rptr(mut self, w: u16) -> Message
+    pub fn with_rptr_word(mut self, w: u16) -> Message
         ensures { λ res. ⌜ res ≡ withRptr self w ⌝ }
     {
         self.rptr = w;

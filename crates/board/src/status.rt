@@ -1,5 +1,5 @@
-// STAT of a task: the stored byte, its bits by name, and itself with one bit changed. DEBUG and MROB have no name here: they are kept
-// and have no effect.
+// STAT of a task: the stored byte, its bits by name, and itself with one bit changed. DEBUG and MROB are kept and have no
+// effect.
 ghost use mathlib.Core.Path.{_≡_};
 ghost use Rattle.board.specs.Status.{has, withBit, withoutBit, isPresent, isReady};
 
@@ -13,6 +13,10 @@ impl Status {
     pub const BIT5: u8 = 32;
 
     pub const INTQ: u8 = 16;
+
+    pub const DEBUG: u8 = 8;
+
+    pub const MROB: u8 = 4;
 
     pub const MHBS: u8 = 2;
 

@@ -53,7 +53,12 @@ fn address(z: Size, b: &mut [u8], c: TaskNo, m: MsgNo, r: TaskNo)
     let k = task_at(z, b, c);
     let p = own_prio(t.prio, k.prio);
     let s = sender(t.sptr, c);
-    put_message(z, b, m, t.with_prio(p).with_rptr(r.number()).with_sptr(s));
+    put_message(
+        z,
+        b,
+        m,
+        t.with_prio(p).with_rptr_word(r.number()).with_sptr(s),
+    );
 }
 
 pub fn send(z: Size, b: &mut [u8], m: u16, r: u16) -> Placed

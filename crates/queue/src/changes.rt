@@ -42,7 +42,7 @@ pub fn set_mptr(z: Size, b: &mut [u8], k: TaskNo, m: u16)
     ensures { λ _. ⌜ now (b .exit) ≡ mptrIn z (now (b .entry)) (k .0) m ⌝ }
 {
     let t = task_at(z, b, k);
-    put_task(z, b, k, t.with_mptr(m));
+    put_task(z, b, k, t.with_mptr_word(m));
 }
 
 // The task that w means is linked to the next; nothing where it means none.
@@ -55,7 +55,7 @@ pub fn link_task(z: Size, b: &mut [u8], w: u16, next: u16)
         return;
     };
     let t = task_at(z, b, k);
-    put_task(z, b, k, t.with_link(next));
+    put_task(z, b, k, t.with_link_word(next));
 }
 
 // The message that w means is linked to the next; nothing where it means none.
@@ -68,7 +68,7 @@ pub fn link_message(z: Size, b: &mut [u8], w: u16, next: u16)
         return;
     };
     let r = message_at(z, b, m);
-    put_message(z, b, m, r.with_link(next));
+    put_message(z, b, m, r.with_link_word(next));
 }
 
 // Task c holds message m, with LINK 0.
@@ -77,6 +77,6 @@ pub fn hold(z: Size, b: &mut [u8], c: TaskNo, m: MsgNo)
     ensures { λ _. ⌜ now (b .exit) ≡ holdIn z (now (b .entry)) (c .0) (m .0) ⌝ }
 {
     let r = message_at(z, b, m);
-    put_message(z, b, m, r.with_link(0));
+    put_message(z, b, m, r.with_link_word(0));
     put_place(z, b, m, Place::HeldBy(c));
 }

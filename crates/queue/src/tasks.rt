@@ -35,7 +35,7 @@ pub fn into_order(z: Size, b: &mut [u8], k: TaskNo, t: Task)
 {
     let x = first_task(b) as u16;
     let at = place_for_task(z, b, x, number(t.prio));
-    put_task(z, b, k, t.with_link(at.cur));
+    put_task(z, b, k, t.with_link_word(at.cur));
     put_behind(z, b, at.prev, k.number());
 }
 

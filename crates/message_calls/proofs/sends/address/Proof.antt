@@ -13,9 +13,9 @@ returns c =
     let v = u .before .before .before in
     let a = v .before .before .before .args in
     addressed (a .z) (now (a .b)) (a .c .0) (a .m .0) (a .r .0) (v .message-at .result) (u .before .task-at .result) _ _
-    _ (t .before .before .with-prio .result) (t .with-rptr .result) (s .with-sptr .result) _ (v .message-at .ensures)
+    _ (t .before .before .with-prio .result) (t .with-rptr-word .result) (s .with-sptr .result) _ (v .message-at .ensures)
     (u .before .task-at .ensures) (u .own-prio .ensures) (t .before .before .before .before .sender .ensures)
-    (t .before .before .with-prio .ensures) (t .before .number .ensures) (t .with-rptr .ensures) (s .with-sptr .ensures)
+    (t .before .before .with-prio .ensures) (t .before .number .ensures) (t .with-rptr-word .ensures) (s .with-sptr .ensures)
     (c .before .before .put-message .ensures)
 
 pub address-spec : {M : Type 1} → statement M

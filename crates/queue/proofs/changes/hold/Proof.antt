@@ -11,7 +11,7 @@ returns c =
     let s = r .before .before .before in
     let a = s .before .before .before .args in
     held (a .z) (now (a .b)) (a .c) (a .m .0) _ _
-    (message-linked (a .z) (now (a .b)) (a .m .0) 0 (s .message-at .result) (r .before .with-link .result) _ (s .message-at .ensures) (r .before .with-link .ensures) (r .put-message .ensures))
+    (message-linked (a .z) (now (a .b)) (a .m .0) 0 (s .message-at .result) (r .before .with-link-word .result) _ (s .message-at .ensures) (r .before .with-link-word .ensures) (r .put-message .ensures))
     (c .before .before .put-place .ensures)
 
 pub hold-spec : {M : Type 1} → statement M

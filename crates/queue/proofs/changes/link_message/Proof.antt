@@ -19,7 +19,7 @@ returns-2 c =
     let a = s .before .before .before .before .args in
     link-message-meant (a .z) (now (a .b)) (a .w) (a .next) (s .meant2 .given .0 .0) _
     (sym (s .before .before .meant .ensures) ∙ s .meant2 .given .1)
-    (message-linked (a .z) (now (a .b)) (s .meant2 .given .0 .0 .0) (a .next) (r .before .before .message-at .result) (r .with-link .result) _ (r .before .before .message-at .ensures) (r .with-link .ensures) (c .before .before .put-message .ensures))
+    (message-linked (a .z) (now (a .b)) (s .meant2 .given .0 .0 .0) (a .next) (r .before .before .message-at .result) (r .with-link-word .result) _ (r .before .before .message-at .ensures) (r .with-link-word .ensures) (c .before .before .put-message .ensures))
 
 pub link-message-spec : {M : Type 1} → statement M
 link-message-spec =

@@ -19,7 +19,7 @@ returns-2 c =
     let a = s .before .before .before .before .args in
     link-task-meant (a .z) (now (a .b)) (a .w) (a .next) (s .meant2 .given .0 .0) _
     (sym (s .before .before .meant .ensures) ∙ s .meant2 .given .1)
-    (task-linked (a .z) (now (a .b)) (s .meant2 .given .0 .0 .0) (r .before .before .task-at .result) (r .with-link .result) _ (r .before .before .task-at .ensures) (c .before .before .put-task .ensures) (a .next) (r .with-link .ensures))
+    (task-linked (a .z) (now (a .b)) (s .meant2 .given .0 .0 .0) (r .before .before .task-at .result) (r .with-link-word .result) _ (r .before .before .task-at .ensures) (c .before .before .put-task .ensures) (a .next) (r .with-link-word .ensures))
 
 pub link-task-spec : {M : Type 1} → statement M
 link-task-spec =

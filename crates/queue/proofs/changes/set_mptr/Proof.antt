@@ -9,8 +9,8 @@ returns : tie.Need-returns
 returns c =
     let r = c .before .before .before in
     let a = r .before .before .before .before .before .args in
-    mptr-set (a .z) (now (a .b)) (a .k .0) (r .before .before .task-at .result) (r .with-mptr .result) _
-    (r .before .before .task-at .ensures) (c .before .before .put-task .ensures) (a .m) (r .with-mptr .ensures)
+    mptr-set (a .z) (now (a .b)) (a .k .0) (r .before .before .task-at .result) (r .with-mptr-word .result) _
+    (r .before .before .task-at .ensures) (c .before .before .put-task .ensures) (a .m) (r .with-mptr-word .ensures)
 
 pub set-mptr-spec : {M : Type 1} → statement M
 set-mptr-spec =

@@ -1,0 +1,3 @@
+mod Access
+mod ByWord
+mod Fields
