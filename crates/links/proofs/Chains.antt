@@ -9,7 +9,7 @@ use native.Mathlib.Omega.{arith}
 use lib.ListN.{length, length-append}
 use borrow.Author.Tests.{eqb-true}
 use Rattle.links.specs.Queue.{walk, ends, firstOf}
-use Rattle.links.specs.Chain.{In, Out, Once, Chain}
+use Rattle.links.specs.Chain.{In, Out, Once, All, Chain}
 use Rattle.links.proofs.Members.{not-in-out, in-split}
 
 -- ---- what a chain is
@@ -58,6 +58,25 @@ chain-once next x (y ∷ q) c = (not-in-out y q twice, chain-once next (next y) 
 pub chain-frame : (f g : ℕ → ℕ) (x : ℕ) (q : List ℕ) → ((y : ℕ) → In y q → g y ≡ f y) → Chain f x q → Chain g x q
 chain-frame f g x [] h c = c
 chain-frame f g x (y ∷ q) h c = (c .0, c .1, rw (h y (inl refl)) (chain-frame f g (f y) q (λ z i. h z (inr i)) (c .2)))
+
+-- links that are led nowhere where they leave a bound, and none of the members does
+pub chain-within : (bound next : ℕ → ℕ) (x : ℕ) (q : List ℕ) → bound 0 ≡ 0 → All (λ y. bound y ≡ y) q → Chain next x q
+    → Chain (λ y. bound (next y)) (bound x) q
+chain-within bound next x [] e a c = ap bound c ∙ e
+chain-within bound next x (y ∷ q) e a c =
+    (ap bound (c .0) ∙ a .0, c .1, chain-within bound next (next y) q e (a .1) (c .2))
+
+-- what holds of 0 and of each member holds of where the links start
+pub chain-start : (P : ℕ → Type 0) (next : ℕ → ℕ) (x : ℕ) (q : List ℕ) → P 0 → All P q → Chain next x q → P x
+chain-start P next x [] h a c = subst P (sym c) h
+chain-start P next x (y ∷ q) h a c = subst P (sym (c .0)) (a .0)
+
+-- and of where a member's link leads
+pub chain-next : (P : ℕ → Type 0) (next : ℕ → ℕ) (x m : ℕ) (q : List ℕ) → P 0 → All P q → Chain next x q → In m q → P (next m)
+chain-next P next x m [] h a c i = absurd i
+chain-next P next x m (y ∷ q) h a c (inl e) =
+    subst (λ (u : ℕ). P (next u)) (sym e) (chain-start P next (next y) q h (a .1) (c .2))
+chain-next P next x m (y ∷ q) h a c (inr i) = chain-next P next (next y) m q h (a .1) (c .2) i
 
 -- ---- a turn of the walk, where fuel and number are no `suc`
 -- one more is visited
