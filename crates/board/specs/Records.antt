@@ -36,7 +36,7 @@ abbrev pub messageOf : List ℕ → Message
 messageOf l = record { stat = getD l 0 0; prio = getD l 1 0; link = wordAt l 2; rptr = wordAt l 4; sptr = wordAt l 6 }
 
 abbrev pub messageBytes : Message → List ℕ
-messageBytes r = r .stat ∷ r .prio ∷ wordBytes (r .link) ++ (wordBytes (r .rptr) ++ wordBytes (r .sptr))
+messageBytes u = u .stat ∷ u .prio ∷ wordBytes (u .link) ++ (wordBytes (u .rptr) ++ wordBytes (u .sptr))
 
 abbrev pub noMessage : Message
 noMessage = record { stat = 0; prio = 0; link = 0; rptr = 0; sptr = 0 }
@@ -52,16 +52,16 @@ abbrev pub taskWithMptr : Task → ℕ → Task
 taskWithMptr t w = record { stat = t .stat; prio = t .prio; link = t .link; mptr = w; sptr = t .sptr; name = t .name }
 
 abbrev pub withStat : Message → ℕ → Message
-withStat r s = record { stat = s; prio = r .prio; link = r .link; rptr = r .rptr; sptr = r .sptr }
+withStat u s = record { stat = s; prio = u .prio; link = u .link; rptr = u .rptr; sptr = u .sptr }
 
 abbrev pub withPrio : Message → ℕ → Message
-withPrio r p = record { stat = r .stat; prio = p; link = r .link; rptr = r .rptr; sptr = r .sptr }
+withPrio u p = record { stat = u .stat; prio = p; link = u .link; rptr = u .rptr; sptr = u .sptr }
 
 abbrev pub withLink : Message → ℕ → Message
-withLink r w = record { stat = r .stat; prio = r .prio; link = w; rptr = r .rptr; sptr = r .sptr }
+withLink u w = record { stat = u .stat; prio = u .prio; link = w; rptr = u .rptr; sptr = u .sptr }
 
 abbrev pub withRptr : Message → ℕ → Message
-withRptr r w = record { stat = r .stat; prio = r .prio; link = r .link; rptr = w; sptr = r .sptr }
+withRptr u w = record { stat = u .stat; prio = u .prio; link = u .link; rptr = w; sptr = u .sptr }
 
 abbrev pub withSptr : Message → ℕ → Message
-withSptr r w = record { stat = r .stat; prio = r .prio; link = r .link; rptr = r .rptr; sptr = w }
+withSptr u w = record { stat = u .stat; prio = u .prio; link = u .link; rptr = u .rptr; sptr = w }

@@ -31,7 +31,7 @@ abbrev pub putTask : Size → List ℕ → ℕ → Task → List ℕ
 putTask z l k t = putIn (taskArea z) l k (taskBytes t)
 
 abbrev pub putMessage : Size → List ℕ → ℕ → Message → List ℕ
-putMessage z l m r = putIn (messageArea z) l m (messageBytes r)
+putMessage z l m u = putIn (messageArea z) l m (messageBytes u)
 
 abbrev pub putPlace : Size → List ℕ → ℕ → Place → List ℕ
 putPlace z l m p = putIn (placeArea z) l m (placeBytes p)

@@ -21,7 +21,7 @@ use Rattle.paper.specs.declared.answer.Refusal.the-variants.{NothingToDeliver}
 use Rattle.paper.specs.declared.answer.Answer.{Answer}
 use Rattle.paper.specs.declared.answer.Answer.the-variants.{Accepted, Refused}
 use Rattle.paper.specs.Rules.{nextMessage, running}
-use Rattle.paper.specs.Step.{Outcome, Ends}
+use Rattle.paper.specs.Outcomes.{Outcome, Ends}
 use Rattle.queue.specs.Moves.{clearsIn, mptrIn, holdIn}
 use Rattle.inner.specs.declared.step.Step.{Step}
 use Rattle.inner.specs.declared.step.Step.the-variants.{Done}

@@ -4,7 +4,7 @@ ghost use Prim.Native.Nat.{_≤_};
 ghost use lib.ListN.{length};
 ghost use Rattle.board.specs.Board.{total};
 ghost use Rattle.paper.specs.declared.call.Call.the-variants as calls;
-ghost use Rattle.paper.specs.Step.{Ends};
+ghost use Rattle.paper.specs.Outcomes.{Ends};
 ghost use Rattle.inner.specs.Stores.{waitsIn, Makes, stepping, finish, calledIn};
 ghost use Rattle.dispatch.specs.Waiting.{waiting, refusalOf};
 use board::bytes::task_at;

@@ -9,6 +9,7 @@ use native.Mathlib.Omega.{arith}
 use lib.Dec.{eqb}
 use lib.ListN.{length, getD}
 use borrow.Author.Tests.{eq-eqb}
+use Rattle.links.specs.Chain.{In}
 use Rattle.links.specs.Queue.{firstOf, consIf, which, firstWith}
 use Rattle.links.proofs.Chains.{chain-first}
 use Rattle.board.specs.declared.numbers.Size.{Size}
@@ -21,15 +22,15 @@ use Rattle.paper.specs.Rules.{present, nextMessage, order, queue, ready, runnin
 use Rattle.paper.specs.Effects.{lowestFree, find}
 use Rattle.paper.specs.Refusals.{holdsOne}
 use Rattle.linked.specs.Linked.{Numbered}
-use Rattle.linked.specs.Sound.{Kept}
-use Rattle.kept.specs.Stands as kept
+use Rattle.linked.specs.Sound.{PlaceGood}
+use Rattle.kept.specs.Settled as kept
 use Rattle.kept.specs.Claims.{Sizes}
 use Rattle.kept.proofs.Reading.{order-walked, queue-walked, placed-numbered}
-use Rattle.history.specs.Ranking.{Entry, keep, Stands}
+use Rattle.history.specs.Ranking.{Entry, keep}
 use Rattle.history.specs.Machine as plain
 use Rattle.history.specs.Machine.{Whose, lowestFrom}
 use Rattle.history.specs.Claims.{Says}
-use Rattle.history.proofs.Entries.{once-keep, stands-keep}
+use Rattle.history.proofs.Entries.{once-keep, in-keep}
 use Rattle.history.proofs.Names.{names-foremost, names-leads, in-names}
 use Rattle.history.proofs.Listed.{isAt}
 use Rattle.history.proofs.Named.{Named}
@@ -71,8 +72,8 @@ queued-alike r (HeldBy k) = refl
 queued-alike r (QueuedAt k) = refl
 queued-alike r (Nowhere p) = refl
 
--- ---- places of a board that stands
-module _ (z : Size) (b : Board) (q : List ℕ) (f : ℕ → List ℕ) (h : kept.Stands z b q f) where
+-- ---- places of a board that is settled
+module _ (z : Size) (b : Board) (q : List ℕ) (f : ℕ → List ℕ) (h : kept.Settled z b q f) where
   -- no message is nowhere
   pub places-say : (m : ℕ) → Says (place b m) (whoseOf (place b m))
   places-say m = step (place b m) refl
@@ -83,7 +84,7 @@ module _ (z : Size) (b : Board) (q : List ℕ) (f : ℕ → List ℕ) (h : kept.
       step (QueuedAt k) e = refl
       step (Nowhere y) e =
           let n = placed-numbered b m (λ d. true≢false (sym (ap isFree (sym e ∙ d)))) in
-          subst (Kept z b m) e (h .kept m (rw (h .fits .places) at n))
+          subst (PlaceGood z b m) e (h .places m (rw (h .fits .places) at n))
 
   lowest-place : (g : Whose → Bool) (t : Place → Bool) → ((m : ℕ) → g (whoseOf (place b m)) ≡ t (place b m))
       → lowestFrom (λ m. g (whoseOf (place b m))) 1 (z .messages) ≡ firstOf (which t 1 (b .places))
@@ -101,8 +102,8 @@ module _ (z : Size) (b : Board) (q : List ℕ) (f : ℕ → List ℕ) (h : kept.
   asked-holds l s n k =
       ap (λ (m : ℕ). not (eqb m 0)) (lowest-place (plain.isHeld k) (isHeldBy k) (λ m. held-alike k (place b m)))
 
--- ---- a board that stands and its machine
-module _ (z : Size) (b : Board) (q : List ℕ) (f : ℕ → List ℕ) (a : Sizes z) (h : kept.Stands z b q f)
+-- ---- a board that is settled and its machine
+module _ (z : Size) (b : Board) (q : List ℕ) (f : ℕ → List ℕ) (a : Sizes z) (h : kept.Settled z b q f)
     (l s : List Entry) (n : ℕ) (w : Named z (plainOf b l s n) q f) where
   -- who runs
   pub asked-running : plain.running (plainOf b l s n) ≡ running z b
@@ -131,13 +132,13 @@ module _ (z : Size) (b : Board) (q : List ℕ) (f : ℕ → List ℕ) (a : Sizes
 
   -- ---- where the entries stand
   -- one installed is present
-  pub entry-present : (x : Entry) → Stands x l → present b (x .id) ≡ true
+  pub entry-present : (x : Entry) → In x l → present b (x .id) ≡ true
   entry-present x i = h .linked .tasks .exact (x .id) .0 (in-names l q (x .id) (w .order) .1 (x, i, refl))
 
   -- one placed is queued there
-  pub entry-queued : (x : Entry) → Stands x s → place b (x .id) ≡ QueuedAt (taskNo (x .at))
+  pub entry-queued : (x : Entry) → In x s → place b (x .id) ≡ QueuedAt (taskNo (x .at))
   entry-queued x i =
       let d = w .homes x i in
       h .linked .messages (x .at) d .exact (x .id) .0
       (in-names (keep (isAt (x .at)) s) (f (x .at)) (x .id) (w .queues (x .at) d) .1
-      (x, stands-keep (isAt (x .at)) x s .1 (i, eq-eqb (x .at) (x .at) refl), refl))
+      (x, in-keep (isAt (x .at)) x s .1 (i, eq-eqb (x .at) (x .at) refl), refl))

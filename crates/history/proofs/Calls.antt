@@ -18,16 +18,16 @@ use Rattle.paper.specs.declared.call.Call.the-variants.{Send, SendAndWait, Rese
 use Rattle.paper.specs.declared.call.Call.the-variants.{Receive, ReceiveAndWait, CancelMessage, WaitForInterrupt}
 use Rattle.paper.specs.Rules.{present, running}
 use Rattle.paper.specs.Effects.{lowestFree, waits}
-use Rattle.paper.specs.Refusals.{Test, no3, no4, no5, no6, no7, no7Install, no8, no9, no10, no11, no12, no13, no14, own, Go, lowest}
-use Rattle.paper.specs.Step.{Done, done, body}
+use Rattle.paper.specs.Refusals.{Test, no3, no4, no5, no6, no7, no7Install, no8, no9, no10, no11, no12, no13, no14, ownRow, Go, lowest}
+use Rattle.paper.specs.Outcomes.{Undispatched, undispatched, body}
 use Rattle.linked.specs.Linked.{Numbered}
 use Rattle.linked.proofs.Tests.{says-isQueuedAt}
-use Rattle.kept.specs.Stands.{Stands}
+use Rattle.kept.specs.Settled.{Settled}
 use Rattle.kept.specs.After.{placed, sent, orderAfter, queuesAfter}
 use Rattle.kept.specs.Claims.{Sizes}
 use Rattle.kept.proofs.Reading.{runner-says, go-passed, neither, runner-passed, held-row, task-passed}
 use Rattle.kept.proofs.Waiting.{task-numbered}
-use Rattle.kept.proofs.Placing.{send-stands, forward-stands}
+use Rattle.kept.proofs.Placing.{send-settled, forward-settled}
 use Rattle.history.specs.Ranking.{Entry}
 use Rattle.history.specs.Machine as plain
 use Rattle.history.specs.Machine.{Plain, Played}
@@ -39,7 +39,7 @@ use Rattle.history.proofs.Placed.{forward-same, send-same, waits-same}
 use Rattle.history.proofs.Taken.{take-same, cancel-message-same}
 
 -- the refusals tests and the body d on a board come to what the row e does on its machine; q and f are the lists afterwards
-pub record Alike (z : Size) (tests : List Test) (d : Done) (q : List ℕ) (f : ℕ → List ℕ) (e : Played) : Type 0 where
+pub record Alike (z : Size) (tests : List Test) (d : Undispatched) (q : List ℕ) (f : ℕ → List ℕ) (e : Played) : Type 0 where
   pub verdict : lowest (e .refusals) ≡ lowest tests
   pub value : lowest tests ≡ Go → d .value ≡ e .value
   pub same : lowest tests ≡ Go → Same z (d .board) q f (e .plain)
@@ -54,8 +54,8 @@ lowest-then t l k h = step (t .applies) refl
     step false e = rw (e, lowest) (h e)
 
 -- ---- a wait
--- on any board that stands
-waits-after : (z : Size) (b : Board) (q : List ℕ) (f : ℕ → List ℕ) (p : Plain) → Sizes z → Stands z b q f → (c : ℕ)
+-- on any board that is settled
+waits-after : (z : Size) (b : Board) (q : List ℕ) (f : ℕ → List ℕ) (p : Plain) → Sizes z → Settled z b q f → (c : ℕ)
     → Numbered (z .tasks) c → Same z b q f p → Same z (waits c b) q f (plain.waits c p)
 waits-after z b q f p a h c d t =
     same-holds z b q f p (λ (x : Plain). Same z (waits c b) q f (plain.waits c x)) t
@@ -63,15 +63,15 @@ waits-after z b q f p a h c d t =
 
 -- after a call whose row passes 3
 and-wait : (z : Size) (b : Board) (q : List ℕ) (f : ℕ → List ℕ) (c : ℕ) (tests : List Test) (e : Played) → Sizes z
-    → (lowest tests ≡ Go → Stands z b q f × Numbered (z .tasks) c) → Alike z tests (done 0 b) q f e
-    → Alike z tests (done 0 (waits c b)) q f (plain.andWait c e)
+    → (lowest tests ≡ Go → Settled z b q f × Numbered (z .tasks) c) → Alike z tests (undispatched 0 b) q f e
+    → Alike z tests (undispatched 0 (waits c b)) q f (plain.andWait c e)
 and-wait z b q f c tests e a h t = record {
   verdict = t .verdict;
   value = t .value;
   same = λ g. waits-after z b q f (e .plain) a (h g .0) c (h g .1) (t .same g);
 }
 
-module _ (z : Size) (b : Board) (q : List ℕ) (f : ℕ → List ℕ) (a : Sizes z) (h : Stands z b q f)
+module _ (z : Size) (b : Board) (q : List ℕ) (f : ℕ → List ℕ) (a : Sizes z) (h : Settled z b q f)
     (l s : List Entry) (n : ℕ) (w : Named z (plainOf b l s n) q f) where
   abbrev c : ℕ
   c = running z b
@@ -107,14 +107,14 @@ module _ (z : Size) (b : Board) (q : List ℕ) (f : ℕ → List ℕ) (a : Sizes
       (outside-within (z .tasks) k (d .0), d .1)
 
   -- ---- messages placed
-  sends : (m r : ℕ) → Alike z (own z b c (Send m r)) (body z b c (Send m r)) q (sent b c f m r) (plain.sends z p c m r)
+  sends : (m r : ℕ) → Alike z (ownRow z b c (Send m r)) (body z b c (Send m r)) q (sent b c f m r) (plain.sends z p c m r)
   sends m r = record {
     verdict = rw (held-alike c (place b m));
     value = λ g. refl;
     same = λ g. let t = sender-row m r [] g in send-same z b q f a h l s n w c m r (t .0) (t .1);
   }
 
-  passes-on : (m r : ℕ) → Alike z (own z b c (Forward m r)) (body z b c (Forward m r)) q (placed b f m (message b m .prio) r)
+  passes-on : (m r : ℕ) → Alike z (ownRow z b c (Forward m r)) (body z b c (Forward m r)) q (placed b f m (message b m .prio) r)
       (plain.passesOn z p c m r)
   passes-on m r = record {
     verdict = rw (held-alike c (place b m));
@@ -122,20 +122,20 @@ module _ (z : Size) (b : Board) (q : List ℕ) (f : ℕ → List ℕ) (a : Sizes
     same = λ g. let t = sender-row m r (no7 b m ∷ []) g in forward-same z b q f a h l s n w c m r (t .0) (t .1);
   }
 
-  sends-waits : (m r : ℕ) → Alike z (own z b c (SendAndWait m r)) (body z b c (SendAndWait m r)) q (sent b c f m r)
+  sends-waits : (m r : ℕ) → Alike z (ownRow z b c (SendAndWait m r)) (body z b c (SendAndWait m r)) q (sent b c f m r)
       (plain.andWait c (plain.sends z p c m r))
   sends-waits m r =
-      and-wait z _ q _ c (own z b c (Send m r)) (plain.sends z p c m r) a
-      (λ g. (send-stands z b q f a h m r g .0, sender-row m r [] g .2)) (sends m r)
+      and-wait z _ q _ c (ownRow z b c (Send m r)) (plain.sends z p c m r) a
+      (λ g. (send-settled z b q f a h m r g .0, sender-row m r [] g .2)) (sends m r)
 
-  passes-on-waits : (m r : ℕ) → Alike z (own z b c (ForwardAndWait m r)) (body z b c (ForwardAndWait m r)) q
+  passes-on-waits : (m r : ℕ) → Alike z (ownRow z b c (ForwardAndWait m r)) (body z b c (ForwardAndWait m r)) q
       (placed b f m (message b m .prio) r) (plain.andWait c (plain.passesOn z p c m r))
   passes-on-waits m r =
-      and-wait z _ q _ c (own z b c (Forward m r)) (plain.passesOn z p c m r) a
-      (λ g. (forward-stands z b q f a h m r g .0, sender-row m r (no7 b m ∷ []) g .2)) (passes-on m r)
+      and-wait z _ q _ c (ownRow z b c (Forward m r)) (plain.passesOn z p c m r) a
+      (λ g. (forward-settled z b q f a h m r g .0, sender-row m r (no7 b m ∷ []) g .2)) (passes-on m r)
 
   -- ---- a message cancelled
-  cancellable : (m r : ℕ) → lowest (own z b c (CancelMessage m r)) ≡ Go
+  cancellable : (m r : ℕ) → lowest (ownRow z b c (CancelMessage m r)) ≡ Go
       → (isQueuedAt r (place b m) ≡ true) × Numbered (z .tasks) r
   cancellable m r g =
       let t = go-passed (no4 z m) (no6 z b r ∷ no12 b m r ∷ no13 b c m ∷ [])
@@ -146,7 +146,7 @@ module _ (z : Size) (b : Board) (q : List ℕ) (f : ℕ → List ℕ) (a : Sizes
 
   -- ---- a task cancelled
   -- where 6 has passed, so does 10 if it does on the machine
-  busy-row : (k : ℕ) → lowest (plain.play z p c (CancelTask k) .refusals) ≡ lowest (own z b c (CancelTask k))
+  busy-row : (k : ℕ) → lowest (plain.play z p c (CancelTask k) .refusals) ≡ lowest (ownRow z b c (CancelTask k))
   busy-row k =
       lowest-then (no3 c) (no6 z b k ∷ plain.no10 z p k ∷ []) (no6 z b k ∷ no10 b k ∷ []) (λ e.
       lowest-then (no6 z b k) (plain.no10 z p k ∷ []) (no10 b k ∷ []) (λ u.
@@ -154,7 +154,7 @@ module _ (z : Size) (b : Board) (q : List ℕ) (f : ℕ → List ℕ) (a : Sizes
 
   -- ---- each call
   pub calls-alike : (call : Call) → let c = running z b in
-      Alike z (own z b c call) (body z b c call) (orderAfter b q call) (queuesAfter b c f call) (plain.play z (plainOf b l s n) c call)
+      Alike z (ownRow z b c call) (body z b c call) (orderAfter b q call) (queuesAfter b c f call) (plain.play z (plainOf b l s n) c call)
   calls-alike (Install k t prio sptr name) = record {
     verdict = refl;
     value = λ g. refl;

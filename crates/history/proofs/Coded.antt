@@ -11,7 +11,7 @@ use Rattle.paper.specs.declared.call.Call.{Call}
 use Rattle.paper.specs.declared.answer.Answer.{Answer}
 use Rattle.paper.specs.declared.answer.Refusal.the-variants.{WrongLength}
 use Rattle.paper.specs.Refusals.{test, lowest}
-use Rattle.paper.specs.Step.{accepted, judge, blank, effect, fresh}
+use Rattle.paper.specs.Outcomes.{accepted, judge, blank, effect, fresh}
 use Rattle.paper.specs.History.{run}
 use Rattle.kept.proofs.Theorems.{small-sizes}
 use Rattle.history.specs.Machine.{start}

@@ -1,4 +1,4 @@
--- Dispatch on a board that stands and on its machine: the same task runs, and is handed the same message if it is due one.
+-- Dispatch on a board that is settled and on its machine: the same task runs, and is handed the same message if it is due one.
 -- Assumes nothing.
 use mathlib.Core.Path.{_≡_, refl, sym, ap, _∙_}
 use mathlib.Core.Bool.{Bool, true, false, true≢false}
@@ -14,14 +14,14 @@ use Rattle.paper.specs.declared.answer.Answer.the-variants.{Accepted}
 use Rattle.paper.specs.Rules.{present, queue, emptyQueue, running}
 use Rattle.paper.specs.Changes.{clears, takeFirst}
 use Rattle.paper.specs.Refusals.{Test}
-use Rattle.paper.specs.Step as paper
+use Rattle.paper.specs.Outcomes as paper
 use Rattle.linked.specs.Linked.{Numbered}
-use Rattle.kept.specs.Stands.{Stands}
+use Rattle.kept.specs.Settled.{Settled}
 use Rattle.kept.specs.After.{changed}
 use Rattle.kept.specs.Claims.{Sizes}
 use Rattle.kept.proofs.Reading.{runner-says}
 use Rattle.kept.proofs.Waiting.{task-numbered}
-use Rattle.kept.proofs.Taking.{due-queued, deliver-stands}
+use Rattle.kept.proofs.Taking.{due-queued, deliver-settled}
 use Rattle.history.specs.Ranking.{Entry}
 use Rattle.history.specs.Machine as plain
 use Rattle.history.specs.Machine.{Plain, Result}
@@ -32,14 +32,14 @@ use Rattle.history.proofs.Same.{Same, same-at, same-holds}
 use Rattle.history.proofs.Taken.{take-same}
 
 -- ---- dispatch
--- the same answer, and the bytes of a board that stands and is the machine's
+-- the same answer, and the bytes of a board that is settled and is the machine's
 pub record Dispatched (z : Size) (o : paper.Outcome) (r : Result) : Type 0 where
   pub answers : o .answer ≡ r .answer
   pub board : Board
   pub order : List ℕ
   pub queues : ℕ → List ℕ
   pub leaves : o .after ≡ bytesOf board
-  pub stands : Stands z board order queues
+  pub settled : Settled z board order queues
   pub same : Same z board order queues (r .plain)
 
 -- a bit cleared
@@ -49,7 +49,7 @@ clears-same z b q f p c bit d t =
     same-holds z b q f p (λ (x : Plain). Same z (clears b c bit) q f (plain.clears x c bit)) t
     (λ l s n w. same-at l s n (plain-clears l s n b c d bit) (named-flagged z (plainOf b l s n) q f w c _))
 
-module _ (z : Size) (b : Board) (q : List ℕ) (f : ℕ → List ℕ) (a : Sizes z) (h : Stands z b q f)
+module _ (z : Size) (b : Board) (q : List ℕ) (f : ℕ → List ℕ) (a : Sizes z) (h : Settled z b q f)
     (l s : List Entry) (n : ℕ) (w : Named z (plainOf b l s n) q f) (bytes : List ℕ) (old : Plain) (tests : List Test) (v : ℕ) where
   abbrev c : ℕ
   c = running z b
@@ -81,7 +81,7 @@ module _ (z : Size) (b : Board) (q : List ℕ) (f : ℕ → List ℕ) (a : Sizes
       order = q;
       queues = left;
       leaves = refl;
-      stands = deliver-stands z b q f a h c runner due;
+      settled = deliver-settled z b q f a h c runner due;
       same = clears-same z (takeFirst z b c) q left (plain.take p c (suc m)) c MHBS
           (rw (length-tasks b c (restOf (queue z b c)), h .fits .tasks) numbered)
           (take-same z b q f a h l s n w c numbered (suc m) e);
@@ -91,16 +91,16 @@ module _ (z : Size) (b : Board) (q : List ℕ) (f : ℕ → List ℕ) (a : Sizes
     queued : emptyQueue b c ≡ false
     queued = ne-eqb (task b c .mptr) 0 (due-queued z b q f a h c runner due)
 
-    delivered : Dispatched z (paper.deliver z bytes (paper.done v b) c) (plain.deliver old (plain.played tests v p) c (plain.first p c))
+    delivered : Dispatched z (paper.deliver z bytes (paper.undispatched v b) c) (plain.deliver old (plain.played tests v p) c (plain.first p c))
     delivered = rw queued (delivers (plain.first p c) refl)
 
   -- it is handed its first message, if it is due one
   pub dispatch-alike : let p = plainOf b l s n in
-      Dispatched z (paper.dispatch z bytes (paper.done v b)) (plain.dispatch old (plain.played tests v p))
+      Dispatched z (paper.dispatch z bytes (paper.undispatched v b)) (plain.dispatch old (plain.played tests v p))
   dispatch-alike = step (has (task b c .stat) MHBS) refl
     where
       step : (t : Bool) → has (task b c .stat) MHBS ≡ t
-          → Dispatched z (paper.dispatch z bytes (paper.done v b)) (plain.dispatch old (plain.played tests v p))
+          → Dispatched z (paper.dispatch z bytes (paper.undispatched v b)) (plain.dispatch old (plain.played tests v p))
       step true e = rw (asked-running z b q f a h l s n w, e) (delivered e)
       step false e = rw (asked-running z b q f a h l s n w, e) (record {
         answers = refl;
@@ -108,6 +108,6 @@ module _ (z : Size) (b : Board) (q : List ℕ) (f : ℕ → List ℕ) (a : Sizes
         order = q;
         queues = f;
         leaves = refl;
-        stands = h;
+        settled = h;
         same = same-at l s n refl w;
       })

@@ -6,46 +6,31 @@ use mathlib.Core.Bool.{Bool, true, false, cond, true≢false}
 use mathlib.Core.List.{List, [], _∷_, _++_}
 use Prim.Native.Nat.{_<_}
 use native.Mathlib.Omega.{arith}
-use Rattle.history.specs.Ranking.{Entry, keep, Stands, Once}
+use Rattle.links.specs.Chain.{In}
+use Rattle.links.proofs.Members.{in-add}
+use Rattle.history.specs.Ranking.{Entry, keep, Once}
 
 -- ---- who stands where
--- with one more at the end: the old ones and the new one
-pub stands-add : (x e : Entry) (l : List Entry) → Stands x (l ++ (e ∷ [])) ↔ (Stands x l ⊎ (x ≡ e))
-stands-add x e l = (there l, back l)
-  where
-    there : (l : List Entry) → Stands x (l ++ (e ∷ [])) → Stands x l ⊎ (x ≡ e)
-    there [] (inl d) = inr d
-    there [] (inr i) = absurd i
-    there (y ∷ l) (inl d) = inl (inl d)
-    there (y ∷ l) (inr i) = ⊎-elim (λ s. inl (inr s)) (λ d. inr d) (there l i)
-
-    back : (l : List Entry) → Stands x l ⊎ (x ≡ e) → Stands x (l ++ (e ∷ []))
-    back [] (inl i) = absurd i
-    back [] (inr d) = inl d
-    back (y ∷ l) (inl (inl d)) = inl d
-    back (y ∷ l) (inl (inr i)) = inr (back l (inl i))
-    back (y ∷ l) (inr d) = inr (back l (inr d))
-
 -- of what is kept: those that stood there and pass
-pub stands-keep : (test : Entry → Bool) (x : Entry) (l : List Entry) → Stands x (keep test l) ↔ (Stands x l × (test x ≡ true))
-stands-keep test x l = (there l, λ h. back l (h .0) (h .1))
+pub in-keep : (test : Entry → Bool) (x : Entry) (l : List Entry) → In x (keep test l) ↔ (In x l × (test x ≡ true))
+in-keep test x l = (there l, λ h. back l (h .0) (h .1))
   where
-    there : (l : List Entry) → Stands x (keep test l) → Stands x l × (test x ≡ true)
+    there : (l : List Entry) → In x (keep test l) → In x l × (test x ≡ true)
     there [] i = absurd i
     there (y ∷ l) i = step (test y) refl i (there l)
       where
-        step : (b : Bool) → test y ≡ b → Stands x (cond b (y ∷ keep test l) (keep test l))
-            → (Stands x (keep test l) → Stands x l × (test x ≡ true)) → Stands x (y ∷ l) × (test x ≡ true)
+        step : (b : Bool) → test y ≡ b → In x (cond b (y ∷ keep test l) (keep test l))
+            → (In x (keep test l) → In x l × (test x ≡ true)) → In x (y ∷ l) × (test x ≡ true)
         step true e (inl d) ih = (inl d, ap test d ∙ e)
         step true e (inr i) ih = (inr (ih i .0), ih i .1)
         step false e i ih = (inr (ih i .0), ih i .1)
 
-    back : (l : List Entry) → Stands x l → test x ≡ true → Stands x (keep test l)
+    back : (l : List Entry) → In x l → test x ≡ true → In x (keep test l)
     back [] i t = absurd i
     back (y ∷ l) i t = step (test y) refl i (λ s. back l s t)
       where
-        step : (b : Bool) → test y ≡ b → Stands x (y ∷ l) → (Stands x l → Stands x (keep test l))
-            → Stands x (cond b (y ∷ keep test l) (keep test l))
+        step : (b : Bool) → test y ≡ b → In x (y ∷ l) → (In x l → In x (keep test l))
+            → In x (cond b (y ∷ keep test l) (keep test l))
         step true e (inl d) ih = inl d
         step true e (inr s) ih = inr (ih s)
         step false e (inl d) ih = absurd (true≢false (sym t ∙ ap test d ∙ e))
@@ -65,7 +50,7 @@ keep-add test (x ∷ l) e = step (test x) (keep-add test l e)
     step false ih = ih
 
 -- two tests that agree on the entries keep the same ones
-pub keep-alike : (test other : Entry → Bool) (l : List Entry) → ((x : Entry) → Stands x l → test x ≡ other x)
+pub keep-alike : (test other : Entry → Bool) (l : List Entry) → ((x : Entry) → In x l → test x ≡ other x)
     → keep test l ≡ keep other l
 keep-alike test other [] h = refl
 keep-alike test other (x ∷ l) h = step (test x) refl (keep-alike test other l (λ y i. h y (inr i)))
@@ -75,7 +60,7 @@ keep-alike test other (x ∷ l) h = step (test x) refl (keep-alike test other l 
     step false e ih = rw (← h x (inl refl), e) ih
 
 -- a test that all pass keeps all
-pub keep-all : (test : Entry → Bool) (l : List Entry) → ((x : Entry) → Stands x l → test x ≡ true) → keep test l ≡ l
+pub keep-all : (test : Entry → Bool) (l : List Entry) → ((x : Entry) → In x l → test x ≡ true) → keep test l ≡ l
 keep-all test [] h = refl
 keep-all test (x ∷ l) h = rw (h x (inl refl)) (ap (λ (q : List Entry). x ∷ q) (keep-all test l (λ y i. h y (inr i))))
 
@@ -93,14 +78,14 @@ keep-keep test other (x ∷ l) = step (test x) refl (other x) refl (keep-keep te
 
 -- ---- no two made at one time
 -- with one more at the end, made later
-pub once-add : (l : List Entry) (e : Entry) → Once l → ((x : Entry) → Stands x l → x .time < e .time) → Once (l ++ (e ∷ []))
+pub once-add : (l : List Entry) (e : Entry) → Once l → ((x : Entry) → In x l → x .time < e .time) → Once (l ++ (e ∷ []))
 once-add [] e o h = ((λ y i. absurd i), tt)
 once-add (x ∷ l) e o h = (apart, once-add l e (o .1) (λ y i. h y (inr i)))
   where
-    apart : (y : Entry) → Stands y (l ++ (e ∷ [])) → y .time ≢ x .time
+    apart : (y : Entry) → In y (l ++ (e ∷ [])) → y .time ≢ x .time
     apart y i =
         let new : y ≡ e → y .time ≢ x .time = λ d t. absurd (omega (arith, h x (inl refl), ap (λ (z : Entry). z .time) d)) in
-        ⊎-elim (o .0 y) new (stands-add y e l .0 i)
+        ⊎-elim (o .0 y) new (in-add y e l .0 i)
 
 -- of what is kept
 pub once-keep : (test : Entry → Bool) (l : List Entry) → Once l → Once (keep test l)
@@ -108,5 +93,5 @@ once-keep test [] o = tt
 once-keep test (x ∷ l) o = step (test x) (once-keep test l (o .1))
   where
     step : (b : Bool) → Once (keep test l) → Once (cond b (x ∷ keep test l) (keep test l))
-    step true ih = ((λ y i. o .0 y (stands-keep test y l .0 i .0)), ih)
+    step true ih = ((λ y i. o .0 y (in-keep test y l .0 i .0)), ih)
     step false ih = ih

@@ -17,14 +17,14 @@ use Rattle.board.specs.Places.{placeOf, placeIn}
 use Rattle.board.specs.Board.{Area, Board, taskArea, messageArea, placeArea, total, cut, pieces, boardOf, nth, task, message, place}
 use Rattle.board.proofs.Numbered.{nth-map}
 use Rattle.paper.specs.Rules.{isThere, running}
-use Rattle.paper.specs.Step.{blank}
-use Rattle.linked.specs.Sound.{Kept}
-use Rattle.kept.specs.Stands.{Byte, Stands}
+use Rattle.paper.specs.Outcomes.{blank}
+use Rattle.linked.specs.Sound.{PlaceGood}
+use Rattle.kept.specs.Settled.{Byte, Settled}
 use Rattle.kept.specs.Claims.{Sizes, Bytes}
 use Rattle.kept.proofs.Flagging.{Flagged, flags-ready}
 use Rattle.kept.proofs.Holding.{isQueued}
 use Rattle.kept.proofs.Fitting.{fits-board}
-use Rattle.kept.proofs.Theorems.{stands-passes}
+use Rattle.kept.proofs.Theorems.{settled-passes}
 use Rattle.history.specs.Ranking.{Names}
 use Rattle.history.specs.Machine.{machine, start}
 use Rattle.history.specs.Claims.{sheetOf, blockOf}
@@ -122,8 +122,8 @@ module _ (z : Size) where
     bytes = λ i. subst Byte (sym (zeros-read (blank z) zeros i)) (lit< tt);
   }
 
-  fresh-stands : Stands z b [] (λ k. [])
-  fresh-stands = record {
+  fresh-settled : Settled z b [] (λ k. [])
+  fresh-settled = record {
     fits = fits-board z (blank z) fresh-bytes;
     byte1 = zeros-read (blank z) zeros 1;
     zeros = zeros-take 2 (drop 2 (blank z)) (zeros-drop 2 (blank z) zeros);
@@ -140,7 +140,7 @@ module _ (z : Size) where
         sorted = tt;
       };
     };
-    kept = λ m d. subst (Kept z b m) (sym (fresh-place m)) (fresh-message m);
+    places = λ m d. subst (PlaceGood z b m) (sym (fresh-place m)) (fresh-message m);
     flags = λ k d.
         subst Flagged (sym (fresh-task k)) (flags-ready (stored 0) (0 ≡ 0) refl refl (λ e. absurd (true≢false (sym e))));
   }
@@ -170,10 +170,10 @@ module _ (z : Size) where
   pub fresh-agrees : Sizes z → Agreeing z (blank z) start
   fresh-agrees a = record {
     bytes = fresh-bytes;
-    sound = stands-passes z b a (fresh-stands .fits) [] (λ k. []) fresh-stands
+    sound = settled-passes z b a (fresh-settled .fits) [] (λ k. []) fresh-settled
         (ap (λ (t : Task). has (t .stat) MHBS) (fresh-task (running z b)));
     order = [];
     queues = λ k. [];
-    stands = fresh-stands;
+    settled = fresh-settled;
     same = record { installed = []; placed = []; time = 0; is = sym fresh-plain; named = start-named };
   }

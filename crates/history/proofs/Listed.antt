@@ -9,12 +9,14 @@ use Prim.Native.Nat.{ℕ, suc}
 use native.Mathlib.Omega.{arith}
 use lib.Dec.{eqb}
 use borrow.Author.Tests.{eqb-true, eqb-false, eq-eqb, ne-eqb}
+use Rattle.links.specs.Chain.{In}
+use Rattle.links.proofs.Members.{in-add}
 use Rattle.links.specs.Queue.{goesBefore, insert, without}
 use Rattle.board.specs.declared.numbers.Size.{Size}
 use Rattle.linked.specs.Linked.{Numbered}
 use Rattle.kept.specs.After.{changed}
-use Rattle.history.specs.Ranking.{Entry, keep, Stands, Once, Names}
-use Rattle.history.proofs.Entries.{once-keep, stands-keep, stands-add, keep-keep, keep-add, keep-all}
+use Rattle.history.specs.Ranking.{Entry, keep, Once, Names}
+use Rattle.history.proofs.Entries.{once-keep, in-keep, keep-keep, keep-add, keep-all}
 use Rattle.history.proofs.Names.{names-add, names-without}
 use Rattle.history.proofs.Rolls.{Roll, others, roll-stays, roll-without, roll-add}
 
@@ -26,15 +28,15 @@ isAt k e = eqb (e .at) k
 pub record Lists (z : Size) (t m : ℕ → ℕ) (now : ℕ) (l s : List Entry) (q : List ℕ) (f : ℕ → List ℕ) : Type 0 where
   pub tasks : Roll t now l
   pub messages : Roll m now s
-  pub homes : (x : Entry) → Stands x s → Numbered (z .tasks) (x .at)
+  pub homes : (x : Entry) → In x s → Numbered (z .tasks) (x .at)
   pub order : Names l q
   pub queues : (k : ℕ) → Numbered (z .tasks) k → Names (keep (isAt k) s) (f k)
 
 module _ (z : Size) (tasks messages : ℕ → ℕ) (now : ℕ) (l s : List Entry) (order : List ℕ) (queues : ℕ → List ℕ)
     (h : Lists z tasks messages now l s order queues) where
   -- numbers that are the same for all who stand there
-  pub lists-stays : (tasks′ messages′ : ℕ → ℕ) → ((x : Entry) → Stands x l → tasks′ (x .id) ≡ tasks (x .id))
-      → ((x : Entry) → Stands x s → messages′ (x .id) ≡ messages (x .id)) → Lists z tasks′ messages′ now l s order queues
+  pub lists-stays : (tasks′ messages′ : ℕ → ℕ) → ((x : Entry) → In x l → tasks′ (x .id) ≡ tasks (x .id))
+      → ((x : Entry) → In x s → messages′ (x .id) ≡ messages (x .id)) → Lists z tasks′ messages′ now l s order queues
   lists-stays tasks′ messages′ f g = record {
     tasks = roll-stays tasks tasks′ now l (h .tasks) now (omega arith) f;
     messages = roll-stays messages messages′ now s (h .messages) now (omega arith) g;
@@ -46,7 +48,7 @@ module _ (z : Size) (tasks messages : ℕ → ℕ) (now : ℕ) (l s : List Entry
   -- ---- tasks
   -- one more, installed now
   pub lists-install : (tasks′ : ℕ → ℕ) (e : Entry) → e .time ≡ now → tasks′ (e .id) ≡ e .number
-      → ((x : Entry) → Stands x l → x .id ≢ e .id) → ((k : ℕ) → k ≢ e .id → tasks′ k ≡ tasks k)
+      → ((x : Entry) → In x l → x .id ≢ e .id) → ((k : ℕ) → k ≢ e .id → tasks′ k ≡ tasks k)
       → Lists z tasks′ messages (suc now) (l ++ (e ∷ [])) s
       (insert (λ y. goesBefore (e .fifo) (e .number) (tasks y)) (e .id) order) queues
   lists-install tasks′ e made own new same = record {
@@ -72,12 +74,12 @@ module _ (z : Size) (tasks messages : ℕ → ℕ) (now : ℕ) (l s : List Entry
   once-at : (k : ℕ) → Once (keep (isAt k) s)
   once-at k = once-keep (isAt k) s (h .messages .once)
 
-  from : (k : ℕ) (x : Entry) → Stands x (keep (isAt k) s) → Stands x s
-  from k x i = stands-keep (isAt k) x s .0 i .0
+  from : (k : ℕ) (x : Entry) → In x (keep (isAt k) s) → In x s
+  from k x i = in-keep (isAt k) x s .0 i .0
 
   -- ---- one more, placed now
   module _ (messages′ : ℕ → ℕ) (e : Entry) (made : e .time ≡ now) (own : messages′ (e .id) ≡ e .number)
-      (new : (x : Entry) → Stands x s → x .id ≢ e .id) (same : (m : ℕ) → m ≢ e .id → messages′ m ≡ messages m)
+      (new : (x : Entry) → In x s → x .id ≢ e .id) (same : (m : ℕ) → m ≢ e .id → messages′ m ≡ messages m)
       (home : Numbered (z .tasks) (e .at)) where
     abbrev with : List ℕ → List ℕ
     with q = insert (λ y. goesBefore (e .fifo) (e .number) (messages y)) (e .id) q
@@ -103,9 +105,9 @@ module _ (z : Size) (tasks messages : ℕ → ℕ) (now : ℕ) (l s : List Entry
         subst (λ (j : ℕ). Names (keep (isAt j) (s ++ (e ∷ []))) (with (queues (e .at)))) (sym (eqb-true k (e .at) i)) names-at
     queues-add k n false i = names-apart k n (eqb-false k (e .at) i)
 
-    homes-add : (x : Entry) → Stands x (s ++ (e ∷ [])) → Numbered (z .tasks) (x .at)
+    homes-add : (x : Entry) → In x (s ++ (e ∷ [])) → Numbered (z .tasks) (x .at)
     homes-add x i =
-        ⊎-elim (h .homes x) (λ p. subst (λ (y : Entry). Numbered (z .tasks) (y .at)) (sym p) home) (stands-add x e s .0 i)
+        ⊎-elim (h .homes x) (λ p. subst (λ (y : Entry). Numbered (z .tasks) (y .at)) (sym p) home) (in-add x e s .0 i)
 
     -- its task has it where its priority puts it
     pub lists-place : Lists z tasks messages′ (suc now) l (s ++ (e ∷ [])) order (changed queues (e .at)
@@ -119,7 +121,7 @@ module _ (z : Size) (tasks messages : ℕ → ℕ) (now : ℕ) (l s : List Entry
     }
 
   -- ---- one less, that is placed at r if anywhere
-  module _ (m r : ℕ) (home : (x : Entry) → Stands x s → x .id ≡ m → x .at ≡ r) where
+  module _ (m r : ℕ) (home : (x : Entry) → In x s → x .id ≡ m → x .at ≡ r) where
     -- the queue of r, and of another
     names-less : Numbered (z .tasks) r → Names (keep (isAt r) (keep (others m) s)) (without m (queues r))
     names-less n =
@@ -132,9 +134,9 @@ module _ (z : Size) (tasks messages : ℕ → ℕ) (now : ℕ) (l s : List Entry
         subst (λ (x : List Entry). Names x (queues k))
         (sym (keep-keep (isAt k) (others m) s ∙ keep-all (others m) (keep (isAt k) s) another)) (h .queues k n)
       where
-        another : (x : Entry) → Stands x (keep (isAt k) s) → others m x ≡ true
+        another : (x : Entry) → In x (keep (isAt k) s) → others m x ≡ true
         another x i =
-            let t = stands-keep (isAt k) x s .0 i in
+            let t = in-keep (isAt k) x s .0 i in
             ap not (ne-eqb (x .id) m (λ g. d (sym (eqb-true (x .at) k (t .1)) ∙ home x (t .0) g)))
 
     queues-less : (k : ℕ) → Numbered (z .tasks) k → (t : Bool) → eqb k r ≡ t
@@ -150,7 +152,7 @@ module _ (z : Size) (tasks messages : ℕ → ℕ) (now : ℕ) (l s : List Entry
     lists-take = record {
       tasks = h .tasks;
       messages = roll-without messages messages now s (h .messages) m (λ k d. refl);
-      homes = λ x i. h .homes x (stands-keep (others m) x s .0 i .0);
+      homes = λ x i. h .homes x (in-keep (others m) x s .0 i .0);
       order = h .order;
       queues = λ k n. queues-less k n (eqb k r) refl;
     }

@@ -31,7 +31,7 @@ use Rattle.history.specs.Claims.{sheetOf, blockOf}
 use Rattle.history.proofs.Named.{laid}
 
 -- ---- the machine of a board
--- whose a message is, by its place; on a board that stands none is nowhere
+-- whose a message is, by its place; on a board that is settled none is nowhere
 abbrev pub whoseOf : Place → Whose
 whoseOf places.Free = Free
 whoseOf (places.HeldBy k) = Held (k .0)

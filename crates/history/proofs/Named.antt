@@ -7,6 +7,7 @@ use mathlib.Core.List.{List}
 use Prim.Native.Nat.{ℕ, suc}
 use lib.Dec.{eqb}
 use borrow.Author.Tests.{eqb-true, eq-eqb, ne-eqb}
+use Rattle.links.specs.Chain.{In}
 use Rattle.links.specs.Queue.{goesBefore, insert, without}
 use Rattle.board.specs.declared.numbers.Size.{Size}
 use Rattle.board.specs.declared.status.Status.{Status}
@@ -15,7 +16,7 @@ use Rattle.board.proofs.Bits.{number-withFifo}
 use Rattle.linked.specs.Linked.{Numbered}
 use Rattle.kept.specs.After.{changed}
 use Rattle.kept.proofs.Reading.{cond-holds}
-use Rattle.history.specs.Ranking.{Entry, Stands}
+use Rattle.history.specs.Ranking.{Entry}
 use Rattle.history.specs.Machine.{Sheet, Block, Plain, noSheet, machine, upd, withBlock, flagged, sets, clears, first, place, take, cancelMessage, install, cancelTask}
 use Rattle.history.proofs.Listed.{Lists, lists-stays, lists-install, lists-cancel, lists-place, lists-take}
 
@@ -54,13 +55,13 @@ module _ (z : Size) (p : Plain) (q : List ℕ) (f : ℕ → List ℕ) (h : Named
       (λ x i. upd-alike (λ (t : Sheet). number (t .prio)) (p .sheets) k (x .id) _ refl) (λ x i. refl)
 
   -- the block of a message written that stands nowhere
-  pub named-block : (m : ℕ) (b : Block) → ((x : Entry) → Stands x (p .placements) → x .id ≢ m) → Named z (withBlock p m b) q f
+  pub named-block : (m : ℕ) (b : Block) → ((x : Entry) → In x (p .placements) → x .id ≢ m) → Named z (withBlock p m b) q f
   named-block m b new =
       lists-stays z (taskPrio p) (messagePrio p) (p .clock) (p .installs) (p .placements) q f h _ (messagePrio (withBlock p m b))
       (λ x i. refl) (λ x i. ap (λ (t : Block). number (t .prio)) (upd-other (p .blocks) m (x .id) b (new x i)))
 
   -- a task installed
-  pub named-install : (k s prio sptr name : ℕ) → ((x : Entry) → Stands x (p .installs) → x .id ≢ k)
+  pub named-install : (k s prio sptr name : ℕ) → ((x : Entry) → In x (p .installs) → x .id ≢ k)
       → Named z (install p k s prio sptr name) (insert (λ y. goesBefore true (number prio) (taskPrio p y)) k q) f
   named-install k s prio sptr name new =
       lists-install z (taskPrio p) (messagePrio p) (p .clock) (p .installs) (p .placements) q f h
@@ -74,7 +75,7 @@ module _ (z : Size) (p : Plain) (q : List ℕ) (f : ℕ → List ℕ) (h : Named
       (λ j d. ap (λ (t : Sheet). number (t .prio)) (upd-other (p .sheets) k j _ d))
 
   -- a message taken that is placed at r if anywhere
-  pub named-take : (c m r : ℕ) → ((x : Entry) → Stands x (p .placements) → x .id ≡ suc m → x .at ≡ r)
+  pub named-take : (c m r : ℕ) → ((x : Entry) → In x (p .placements) → x .id ≡ suc m → x .at ≡ r)
       → Named z (take p c (suc m)) q (changed f r (without (suc m) (f r)))
   named-take c m r home =
       lists-take z (taskPrio p) (messagePrio p) (p .clock) (p .installs) (p .placements) q f h (suc m) r home
@@ -86,7 +87,7 @@ module _ (z : Size) (p : Plain) (q : List ℕ) (f : ℕ → List ℕ) (h : Named
   named-turned k off on = named-flagged z (clears p k off) q f (named-flagged z p q f h k _) k _
 
 module _ (z : Size) (p : Plain) (q : List ℕ) (f : ℕ → List ℕ) (h : Named z p q f)
-    (c m r : ℕ) (home : (x : Entry) → Stands x (p .placements) → x .id ≡ suc m → x .at ≡ r) where
+    (c m r : ℕ) (home : (x : Entry) → In x (p .placements) → x .id ≡ suc m → x .at ≡ r) where
   -- one that is placed at r if anywhere
   pub named-cancel-message : Named z (cancelMessage p c (suc m) r) q (changed f r (without (suc m) (f r)))
   named-cancel-message =
@@ -105,7 +106,7 @@ abbrev pub laid : Plain → ℕ → ℕ → Plain
 laid p m r = withSheets (place (withSheets p (λ k. noSheet)) m r) (p .sheets)
 
 module _ (z : Size) (p : Plain) (q : List ℕ) (f : ℕ → List ℕ) (h : Named z p q f)
-    (m r : ℕ) (new : (x : Entry) → Stands x (p .placements) → x .id ≢ m) (n : Numbered (z .tasks) r) where
+    (m r : ℕ) (new : (x : Entry) → In x (p .placements) → x .id ≢ m) (n : Numbered (z .tasks) r) where
   abbrev prio : ℕ
   prio = p .blocks m .prio
 

@@ -7,6 +7,7 @@ use mathlib.Core.List.{List}
 use Prim.Native.Nat.{ℕ, suc}
 use lib.Dec.{eqb}
 use lib.ListN.{length}
+use Rattle.links.specs.Chain.{In}
 use Rattle.links.specs.Queue.{goesBefore}
 use Rattle.links.proofs.Insertion.{insert-stays}
 use Rattle.board.specs.declared.numbers.Size.{Size}
@@ -21,7 +22,7 @@ use Rattle.paper.specs.Rules.{messageNumber}
 use Rattle.paper.specs.Changes.{sets}
 use Rattle.paper.specs.Effects.{placeAt, ownPrio, addressed, send, waits}
 use Rattle.linked.specs.Linked.{Numbered}
-use Rattle.kept.specs.Stands.{Stands}
+use Rattle.kept.specs.Settled.{Settled}
 use Rattle.kept.specs.After.{changed, placed, sent}
 use Rattle.kept.specs.Claims.{Sizes}
 use Rattle.kept.proofs.Reading.{message-put, message-other}
@@ -38,14 +39,14 @@ use Rattle.history.proofs.Same.{Same, same-at, held-apart}
 -- ---- placed
 -- a message that stands nowhere goes into the queue of r
 place-same : (z : Size) (b : Board) (q : List ℕ) (f : ℕ → List ℕ) (l s : List Entry) (n : ℕ)
-    → Named z (plainOf b l s n) q f → (m r : ℕ) → ((x : Entry) → ranks.Stands x s → x .id ≢ m) → Numbered (z .tasks) r
+    → Named z (plainOf b l s n) q f → (m r : ℕ) → ((x : Entry) → In x s → x .id ≢ m) → Numbered (z .tasks) r
     → Numbered (length (b .tasks)) r → Numbered (length (b .messages)) m → Numbered (length (b .places)) m
     → Same z (placeAt z b m r) q (placed b f m (message b m .prio) r) (plain.place (plainOf b l s n) m r)
 place-same z b q f l s n w m r apart d hr hm hp =
     same-at l (laid (plainOf b l s n) m r .placements) (suc n)
     (plain-placed z l s n b m r hr hm hp) (named-place z (plainOf b l s n) q f w m r apart d)
 
-module _ (z : Size) (b : Board) (q : List ℕ) (f : ℕ → List ℕ) (a : Sizes z) (h : Stands z b q f)
+module _ (z : Size) (b : Board) (q : List ℕ) (f : ℕ → List ℕ) (a : Sizes z) (h : Settled z b q f)
     (l s : List Entry) (n : ℕ) (w : Named z (plainOf b l s n) q f) where
   abbrev p : Plain
   p = plainOf b l s n

@@ -4,25 +4,26 @@ use mathlib.Core.Path.{_≡_, refl, sym, ap, ap₂, _∙_, subst}
 use mathlib.Core.Logic.{_≢_, _⊎_, inl, inr, ⊎-elim, _↔_}
 use mathlib.Core.Bool.{Bool, true, false, cond, not, true≢false}
 use mathlib.Core.List.{List, [], _∷_}
-use Rattle.history.specs.Ranking.{Entry, ahead, keep, leader, Stands, AheadOf, InOrder, Ranking, Once}
+use Rattle.links.specs.Chain.{In}
+use Rattle.history.specs.Ranking.{Entry, ahead, keep, leader, AheadOf, InOrder, Ranking, Once}
 use Rattle.history.specs.Claims.{Ranked, OneRanking}
 use Rattle.history.proofs.Ahead.{ahead-irreflexive, ahead-asymmetric, ahead-transitive, ahead-total}
-use Rattle.history.proofs.Entries.{stands-keep}
+use Rattle.history.proofs.Entries.{in-keep}
 
 -- ---- ahead of each
 -- of any one of them
-pub ahead-at : (x : Entry) (q : List Entry) → AheadOf x q → (y : Entry) → Stands y q → ahead x y ≡ true
+pub ahead-at : (x : Entry) (q : List Entry) → AheadOf x q → (y : Entry) → In y q → ahead x y ≡ true
 ahead-at x [] h y i = absurd i
 ahead-at x (z ∷ q) h y (inl e) = subst (λ (w : Entry). ahead x w ≡ true) (sym e) (h .0)
 ahead-at x (z ∷ q) h y (inr i) = ahead-at x q (h .1) y i
 
 -- of any one, so of each
-ahead-all : (x : Entry) (q : List Entry) → ((y : Entry) → Stands y q → ahead x y ≡ true) → AheadOf x q
+ahead-all : (x : Entry) (q : List Entry) → ((y : Entry) → In y q → ahead x y ≡ true) → AheadOf x q
 ahead-all x [] h = tt
 ahead-all x (y ∷ q) h = (h y (inl refl), ahead-all x q (λ z i. h z (inr i)))
 
 -- one ahead of the list doesn't stand in it
-pub ahead-out : (x y : Entry) (q : List Entry) → AheadOf x q → Stands y q → x ≡ y → ⊥
+pub ahead-out : (x y : Entry) (q : List Entry) → AheadOf x q → In y q → x ≡ y → ⊥
 ahead-out x y q h i e =
     true≢false (sym (ahead-at x q h y i) ∙ ap (λ (w : Entry). ahead x w) (sym e) ∙ ahead-irreflexive x)
 
@@ -32,13 +33,13 @@ ahead-not-both x y h k = true≢false (sym k ∙ ahead-asymmetric x y h)
 
 -- ---- at most one ranking
 -- two lists in order with the same entries are one list
-order-one : (q r : List Entry) → ((x : Entry) → Stands x q ↔ Stands x r) → InOrder q → InOrder r → q ≡ r
+order-one : (q r : List Entry) → ((x : Entry) → In x q ↔ In x r) → InOrder q → InOrder r → q ≡ r
 order-one [] [] s a b = refl
 order-one [] (y ∷ r) s a b = absurd (s y .1 (inl refl))
 order-one (x ∷ q) [] s a b = absurd (s x .0 (inl refl))
 order-one (x ∷ q) (y ∷ r) s a b = ap₂ _∷_ same (order-one q r (λ z. (there z, back z)) (a .1) (b .1))
   where
-    pick : Stands x (y ∷ r) → Stands y (x ∷ q) → x ≡ y
+    pick : In x (y ∷ r) → In y (x ∷ q) → x ≡ y
     pick (inl e) j = e
     pick (inr i) (inl e) = sym e
     pick (inr i) (inr j) = absurd (ahead-not-both x y (ahead-at x q (a .0) y j) (ahead-at y r (b .0) x i))
@@ -46,10 +47,10 @@ order-one (x ∷ q) (y ∷ r) s a b = ap₂ _∷_ same (order-one q r (λ z. (th
     same : x ≡ y
     same = pick (s x .0 (inl refl)) (s y .1 (inl refl))
 
-    there : (z : Entry) → Stands z q → Stands z r
+    there : (z : Entry) → In z q → In z r
     there z i = ⊎-elim (λ (e : z ≡ y). absurd (ahead-out x z q (a .0) i (same ∙ sym e))) (λ j. j) (s z .0 (inr i))
 
-    back : (z : Entry) → Stands z r → Stands z q
+    back : (z : Entry) → In z r → In z q
     back z i = ⊎-elim (λ (e : z ≡ x). absurd (ahead-out y z r (b .0) i (sym same ∙ sym e))) (λ j. j) (s z .1 (inr i))
 
 -- any two rankings of a list are one list
@@ -64,54 +65,54 @@ place e [] = e ∷ []
 place e (x ∷ q) = cond (ahead e x) (e ∷ x ∷ q) (x ∷ place e q)
 
 -- then the new one and the old ones stand there
-stands-place : (e y : Entry) (q : List Entry) → Stands y (place e q) ↔ Stands y (e ∷ q)
-stands-place e y [] = ((λ i. i), λ i. i)
-stands-place e y (x ∷ q) = step (ahead e x) (stands-place e y q)
+in-place : (e y : Entry) (q : List Entry) → In y (place e q) ↔ In y (e ∷ q)
+in-place e y [] = ((λ i. i), λ i. i)
+in-place e y (x ∷ q) = step (ahead e x) (in-place e y q)
   where
-    step : (b : Bool) → Stands y (place e q) ↔ Stands y (e ∷ q)
-        → Stands y (cond b (e ∷ x ∷ q) (x ∷ place e q)) ↔ Stands y (e ∷ x ∷ q)
+    step : (b : Bool) → In y (place e q) ↔ In y (e ∷ q)
+        → In y (cond b (e ∷ x ∷ q) (x ∷ place e q)) ↔ In y (e ∷ x ∷ q)
     step true ih = ((λ i. i), λ i. i)
     step false ih = (there, back)
       where
-        there : Stands y (x ∷ place e q) → Stands y (e ∷ x ∷ q)
+        there : In y (x ∷ place e q) → In y (e ∷ x ∷ q)
         there (inl d) = inr (inl d)
         there (inr i) = ⊎-elim (λ d. inl d) (λ j. inr (inr j)) (ih .0 i)
 
-        back : Stands y (e ∷ x ∷ q) → Stands y (x ∷ place e q)
+        back : In y (e ∷ x ∷ q) → In y (x ∷ place e q)
         back (inl d) = inr (ih .1 (inl d))
         back (inr (inl d)) = inl d
         back (inr (inr j)) = inr (ih .1 (inr j))
 
 -- and they are in order
-order-place : (e : Entry) (q : List Entry) → ((x : Entry) → Stands x q → x .time ≢ e .time) → InOrder q → InOrder (place e q)
+order-place : (e : Entry) (q : List Entry) → ((x : Entry) → In x q → x .time ≢ e .time) → InOrder q → InOrder (place e q)
 order-place e [] n h = (tt, tt)
 order-place e (x ∷ q) n h = step (ahead e x) refl (order-place e q (λ y i. n y (inr i)) (h .1))
   where
     step : (b : Bool) → ahead e x ≡ b → InOrder (place e q) → InOrder (cond b (e ∷ x ∷ q) (x ∷ place e q))
     step true a ih = ((a, ahead-all e q behind), h)
       where
-        behind : (y : Entry) → Stands y q → ahead e y ≡ true
+        behind : (y : Entry) → In y q → ahead e y ≡ true
         behind y i = ahead-transitive e x y (λ t. n y (inr i) (sym t)) a (ahead-at x q (h .0) y i)
-    step false a ih = (ahead-all x (place e q) (λ y i. behind y (stands-place e y q .0 i)), ih)
+    step false a ih = (ahead-all x (place e q) (λ y i. behind y (in-place e y q .0 i)), ih)
       where
-        behind : (y : Entry) → Stands y (e ∷ q) → ahead x y ≡ true
+        behind : (y : Entry) → In y (e ∷ q) → ahead x y ≡ true
         behind y (inl d) =
             subst (λ (w : Entry). ahead x w ≡ true) (sym d) (ahead-total e x (λ t. n x (inl refl) (sym t)) ∙ ap not a)
         behind y (inr i) = ahead-at x q (h .0) y i
 
 -- so it is the ranking with the new one
-pub ranking-place : (e : Entry) (l q : List Entry) → ((x : Entry) → Stands x l → x .time ≢ e .time) → Ranking l q
+pub ranking-place : (e : Entry) (l q : List Entry) → ((x : Entry) → In x l → x .time ≢ e .time) → Ranking l q
     → Ranking (e ∷ l) (place e q)
 ranking-place e l q n r = record {
-  same = λ y. ((λ i. there y (stands-place e y q .0 i)), λ i. stands-place e y q .1 (back y i));
+  same = λ y. ((λ i. there y (in-place e y q .0 i)), λ i. in-place e y q .1 (back y i));
   order = order-place e q (λ x i. n x (r .same x .0 i)) (r .order);
 }
   where
-    there : (y : Entry) → Stands y (e ∷ q) → Stands y (e ∷ l)
+    there : (y : Entry) → In y (e ∷ q) → In y (e ∷ l)
     there y (inl d) = inl d
     there y (inr i) = inr (r .same y .0 i)
 
-    back : (y : Entry) → Stands y (e ∷ l) → Stands y (e ∷ q)
+    back : (y : Entry) → In y (e ∷ l) → In y (e ∷ q)
     back y (inl d) = inl d
     back y (inr i) = inr (r .same y .1 i)
 
@@ -133,23 +134,23 @@ order-keep test [] h = tt
 order-keep test (x ∷ q) h = step (test x) (order-keep test q (h .1))
   where
     step : (b : Bool) → InOrder (keep test q) → InOrder (cond b (x ∷ keep test q) (keep test q))
-    step true ih = (ahead-all x (keep test q) (λ y i. ahead-at x q (h .0) y (stands-keep test y q .0 i .0)), ih)
+    step true ih = (ahead-all x (keep test q) (λ y i. ahead-at x q (h .0) y (in-keep test y q .0 i .0)), ih)
     step false ih = ih
 
 -- what a test keeps of the ranking is the ranking of what it keeps
 pub ranking-keep : (test : Entry → Bool) (l q : List Entry) → Ranking l q → Ranking (keep test l) (keep test q)
 ranking-keep test l q r = record { same = λ x. (there x, back x); order = order-keep test q (r .order) }
   where
-    there : (x : Entry) → Stands x (keep test q) → Stands x (keep test l)
-    there x i = let k = stands-keep test x q .0 i in stands-keep test x l .1 (r .same x .0 (k .0), k .1)
+    there : (x : Entry) → In x (keep test q) → In x (keep test l)
+    there x i = let k = in-keep test x q .0 i in in-keep test x l .1 (r .same x .0 (k .0), k .1)
 
-    back : (x : Entry) → Stands x (keep test l) → Stands x (keep test q)
-    back x i = let k = stands-keep test x l .0 i in stands-keep test x q .1 (r .same x .1 (k .0), k .1)
+    back : (x : Entry) → In x (keep test l) → In x (keep test q)
+    back x i = let k = in-keep test x l .0 i in in-keep test x q .1 (r .same x .1 (k .0), k .1)
 
 -- ---- the foremost
 -- h is in q, ahead of all others
 abbrev pub First : Entry → List Entry → Type 0
-First h q = Stands h q × ((y : Entry) → Stands y q → (y ≡ h) ⊎ (ahead h y ≡ true))
+First h q = In h q × ((y : Entry) → In y q → (y ≡ h) ⊎ (ahead h y ≡ true))
 
 -- it is the leader
 pub first-leader : (h x : Entry) (l : List Entry) → First h (x ∷ l) → leader x l ≡ h
@@ -164,12 +165,12 @@ first-leader h x (y ∷ l) f = step (ahead y x) refl (λ w. first-leader h w l)
     before a e (inl d) = sym d
     before a e (inr g) = absurd (true≢false (sym g ∙ ap (λ (w : Entry). ahead w x) e ∙ a))
 
-    with-x : ahead y x ≡ false → Stands h (x ∷ y ∷ l) → Stands h (x ∷ l)
+    with-x : ahead y x ≡ false → In h (x ∷ y ∷ l) → In h (x ∷ l)
     with-x a (inl e) = inl e
     with-x a (inr (inl e)) = inl (before a e (f .1 x (inl refl)))
     with-x a (inr (inr i)) = inr i
 
-    with-y : ahead y x ≡ true → Stands h (x ∷ y ∷ l) → Stands h (y ∷ l)
+    with-y : ahead y x ≡ true → In h (x ∷ y ∷ l) → In h (y ∷ l)
     with-y a (inl e) = inl (behind a e (f .1 y (inr (inl refl))))
     with-y a (inr i) = i
 

@@ -7,6 +7,7 @@ use mathlib.Core.Bool.{false, true≢false}
 use mathlib.Core.List.{List}
 use Prim.Native.Nat.{ℕ}
 use lib.ListN.{length}
+use Rattle.links.specs.Chain.{In}
 use Rattle.board.specs.declared.numbers.Size.{Size}
 use Rattle.board.specs.declared.places.Place.the-variants.{Free, HeldBy}
 use Rattle.board.specs.Numbers.{taskNo}
@@ -17,7 +18,7 @@ use Rattle.paper.specs.declared.call.Call.the-variants.{Install, CancelTask}
 use Rattle.paper.specs.Rules.{present}
 use Rattle.paper.specs.Effects.{install, cancelTask, post, waitInterrupt, lowestFree, claim, release, prepare}
 use Rattle.linked.specs.Linked.{Numbered}
-use Rattle.kept.specs.Stands.{Stands}
+use Rattle.kept.specs.Settled.{Settled}
 use Rattle.kept.specs.After.{orderAfter}
 use Rattle.kept.specs.Claims.{Sizes}
 use Rattle.kept.proofs.Reading.{cond-holds}
@@ -48,7 +49,7 @@ pub same-holds : (z : Size) (b : Board) (q : List ℕ) (f : ℕ → List ℕ) (p
 same-holds z b q f p P t g =
     subst P (sym (t .is)) (g (t .installed) (t .placed) (t .time) (subst (λ (x : Plain). Named z x q f) (t .is) (t .named)))
 
-module _ (z : Size) (b : Board) (q : List ℕ) (f : ℕ → List ℕ) (a : Sizes z) (h : Stands z b q f)
+module _ (z : Size) (b : Board) (q : List ℕ) (f : ℕ → List ℕ) (a : Sizes z) (h : Settled z b q f)
     (l s : List Entry) (n : ℕ) (w : Named z (plainOf b l s n) q f) where
   abbrev p : Plain
   p = plainOf b l s n
@@ -84,7 +85,7 @@ module _ (z : Size) (b : Board) (q : List ℕ) (f : ℕ → List ℕ) (a : Sizes
 
   module _ (c m : ℕ) (held : place b m ≡ HeldBy (taskNo c)) where
     -- a held message stands nowhere
-    pub held-apart : (x : Entry) → ranks.Stands x s → x .id ≢ m
+    pub held-apart : (x : Entry) → In x s → x .id ≢ m
     held-apart x i e =
         let d = ap isQueued (sym (entry-queued z b q f a h l s n w x i) ∙ ap (place b) e ∙ held) in
         true≢false d

@@ -10,13 +10,13 @@ use Rattle.board.specs.declared.numbers.Size.{Size}
 use Rattle.board.specs.Board.{Board, total, boardOf}
 use Rattle.paper.specs.declared.call.Call.{Call}
 use Rattle.paper.specs.Rules.{running, passes}
-use Rattle.paper.specs.Refusals.{Test, no1, no2, own, row, Verdict, Go, Stop, lowest}
-use Rattle.paper.specs.Step as paper
-use Rattle.kept.specs.Stands.{Stands, Fitting}
+use Rattle.paper.specs.Refusals.{Test, no1, no2, ownRow, row, Verdict, Go, Stop, lowest}
+use Rattle.paper.specs.Outcomes as paper
+use Rattle.kept.specs.Settled.{Settled, Fitting}
 use Rattle.kept.specs.After.{orderAfter, queuesAfter}
 use Rattle.kept.specs.Claims.{Sizes, Bytes}
 use Rattle.kept.proofs.Fitting.{board-bytes}
-use Rattle.kept.proofs.Theorems.{body-stands, passing-sound, sound-runner, passing-stays-passing}
+use Rattle.kept.proofs.Theorems.{body-settles, passing-sound, sound-runner, passing-stays-passing}
 use Rattle.history.specs.Ranking.{Entry}
 use Rattle.history.specs.Machine as plain
 use Rattle.history.specs.Machine.{Plain, Played, Result}
@@ -33,25 +33,25 @@ pub record Agreeing (z : Size) (l : List ℕ) (p : Plain) : Type 0 where
   pub sound : passes z (boardOf z l) ≡ true
   pub order : List ℕ
   pub queues : ℕ → List ℕ
-  pub stands : Stands z (boardOf z l) order queues
+  pub settled : Settled z (boardOf z l) order queues
   pub same : Same z (boardOf z l) order queues p
 
--- what a call makes of both: the same answer, and a board that stands and is the machine's
+-- what a call makes of both: the same answer, and a board that is settled and is the machine's
 record Ended (z : Size) (o : paper.Outcome) (r : Result) : Type 0 where
   pub answers : o .answer ≡ r .answer
   pub order : List ℕ
   pub queues : ℕ → List ℕ
-  pub stands : Stands z (boardOf z (o .after)) order queues
+  pub settled : Settled z (boardOf z (o .after)) order queues
   pub same : Same z (boardOf z (o .after)) order queues (r .plain)
 
 -- bytes are their board's
 dispatched-ends : (z : Size) (o : paper.Outcome) (r : Result) → Dispatched z o r → Ended z o r
 dispatched-ends z o r t =
-    let e : boardOf z (o .after) ≡ t .board = ap (boardOf z) (t .leaves) ∙ board-bytes z (t .board) (t .stands .fits) in record {
+    let e : boardOf z (o .after) ≡ t .board = ap (boardOf z) (t .leaves) ∙ board-bytes z (t .board) (t .settled .fits) in record {
       answers = t .answers;
       order = t .order;
       queues = t .queues;
-      stands = subst (λ (b : Board). Stands z b (t .order) (t .queues)) (sym e) (t .stands);
+      settled = subst (λ (b : Board). Settled z b (t .order) (t .queues)) (sym e) (t .settled);
       same = subst (λ (b : Board). Same z b (t .order) (t .queues) (r .plain)) (sym e) (t .same);
     }
 
@@ -61,7 +61,7 @@ lowest-passed t tests e = rw (e, lowest)
 
 -- ---- a call
 module _ (z : Size) (a : Sizes z) (bytes : List ℕ) (call : Call) (fits : Fitting call) (long : length bytes ≡ total z)
-    (sound : passes z (boardOf z bytes) ≡ true) (q : List ℕ) (f : ℕ → List ℕ) (h : Stands z (boardOf z bytes) q f)
+    (sound : passes z (boardOf z bytes) ≡ true) (q : List ℕ) (f : ℕ → List ℕ) (h : Settled z (boardOf z bytes) q f)
     (l s : List Entry) (n : ℕ) (w : Named z (plainOf (boardOf z bytes) l s n) q f) where
   abbrev b : Board
   b = boardOf z bytes
@@ -72,44 +72,44 @@ module _ (z : Size) (a : Sizes z) (bytes : List ℕ) (call : Call) (fits : Fitti
   abbrev p : Plain
   p = plainOf b l s n
 
-  abbrev d : paper.Done
+  abbrev d : paper.Undispatched
   d = paper.body z b c call
 
   abbrev e : Played
   e = plain.play z p c call
 
-  alike : Alike z (own z b c call) d (orderAfter b q call) (queuesAfter b c f call) e
+  alike : Alike z (ownRow z b c call) d (orderAfter b q call) (queuesAfter b c f call) e
   alike = calls-alike z b q f a h l s n w call
 
   -- refusals 1 and 2 don't apply
-  row-own : lowest (row z bytes b c call) ≡ lowest (own z b c call)
+  row-own : lowest (row z bytes b c call) ≡ lowest (ownRow z b c call)
   row-own =
-      lowest-passed (no1 z bytes) (no2 z b ∷ own z b c call) (ap not (eq-eqb (length bytes) (total z) long))
-      ∙ lowest-passed (no2 z b) (own z b c call) (ap not sound)
+      lowest-passed (no1 z bytes) (no2 z b ∷ ownRow z b c call) (ap not (eq-eqb (length bytes) (total z) long))
+      ∙ lowest-passed (no2 z b) (ownRow z b c call) (ap not sound)
 
   -- the body, and then dispatch
-  went : lowest (own z b c call) ≡ Go → Ended z (paper.dispatch z bytes d) (plain.dispatch p e)
+  went : lowest (ownRow z b c call) ≡ Go → Ended z (paper.dispatch z bytes d) (plain.dispatch p e)
   went g =
       let r = sound-runner z b a (h .fits) (passing-sound z b a (h .fits) sound) in
       let to : ℕ → Plain → Type 0 = λ v x. Dispatched z (paper.dispatch z bytes d) (plain.dispatch p (plain.played (e .refusals) v x)) in
       dispatched-ends z _ _ (subst (λ (v : ℕ). to v (e .plain)) (alike .value g)
       (same-holds z (d .board) _ _ (e .plain) (to (d .value)) (alike .same g)
-      (λ l s n w. dispatch-alike z (d .board) _ _ a (body-stands z b q f call a fits h r g) l s n w bytes p (e .refusals) (d .value))))
+      (λ l s n w. dispatch-alike z (d .board) _ _ a (body-settles z b q f call a fits h r g) l s n w bytes p (e .refusals) (d .value))))
 
   -- whatever its row gives
-  judged-ends : (v : Verdict) → lowest (own z b c call) ≡ v
+  judged-ends : (v : Verdict) → lowest (ownRow z b c call) ≡ v
       → Ended z (paper.judge bytes v (paper.dispatch z bytes d)) (plain.judged p v (plain.dispatch p e))
   judged-ends Go g = went g
   judged-ends (Stop r) g = record {
     answers = refl;
     order = q;
     queues = f;
-    stands = h;
+    settled = h;
     same = same-at l s n refl w;
   }
 
   -- the machine finds the same refusals, and the same task running
-  step-judged : plain.judged p (lowest (own z b c call)) (plain.dispatch p e) ≡ plain.step z p call
+  step-judged : plain.judged p (lowest (ownRow z b c call)) (plain.dispatch p e) ≡ plain.step z p call
   step-judged =
       ap (λ (v : Verdict). plain.judged p v (plain.dispatch p e)) (sym (alike .verdict))
       ∙ ap (λ (k : ℕ). let o = plain.play z p k call in plain.judged p (lowest (o .refusals)) (plain.dispatch p o))
@@ -119,8 +119,8 @@ module _ (z : Size) (a : Sizes z) (bytes : List ℕ) (call : Call) (fits : Fitti
   effect-ends =
       subst (λ (r : Result). Ended z (paper.effect z bytes call) r) step-judged
       (subst (λ (v : Verdict). Ended z (paper.judge bytes v (paper.dispatch z bytes d))
-      (plain.judged p (lowest (own z b c call)) (plain.dispatch p e))) (sym row-own)
-      (judged-ends (lowest (own z b c call)) refl))
+      (plain.judged p (lowest (ownRow z b c call)) (plain.dispatch p e))) (sym row-own)
+      (judged-ends (lowest (ownRow z b c call)) refl))
 
 -- bytes and machine that agree give one answer to a call that fits, and agree afterwards
 pub call-agrees : (z : Size) → Sizes z → (l : List ℕ) (p : Plain) (call : Call) → Fitting call → Agreeing z l p
@@ -131,8 +131,8 @@ call-agrees z a l p call w t =
     let f : ℕ → List ℕ = t .queues in
     let to : Plain → Type 0 = λ x. Ended z (paper.effect z l call) (plain.step z x call) in
     let r : to p = same-holds z (boardOf z l) q f p to (t .same)
-    (effect-ends z a l call w (t .bytes .long) (t .sound) q f (t .stands)) in
+    (effect-ends z a l call w (t .bytes .long) (t .sound) q f (t .settled)) in
     let k = passing-stays-passing z l call a (t .bytes) w (t .sound) in (
       r .answers,
-      record { bytes = k .0; sound = k .1; order = r .order; queues = r .queues; stands = r .stands; same = r .same },
+      record { bytes = k .0; sound = k .1; order = r .order; queues = r .queues; settled = r .settled; same = r .same },
     )

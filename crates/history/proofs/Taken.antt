@@ -22,7 +22,7 @@ use Rattle.paper.specs.Rules.{nextMessage, queue}
 use Rattle.paper.specs.Changes.{sets, clears, withQueue, hold, takeFirst}
 use Rattle.paper.specs.Effects.{cancelMessage}
 use Rattle.linked.specs.Linked.{Numbered}
-use Rattle.kept.specs.Stands.{Stands}
+use Rattle.kept.specs.Settled.{Settled}
 use Rattle.kept.specs.After.{changed}
 use Rattle.kept.specs.Claims.{Sizes}
 use Rattle.kept.proofs.Reading.{cond-holds, task-put, placed-numbered, queued-placed, queue-walked}
@@ -44,13 +44,13 @@ rest-without : (q : List ℕ) → without (firstOf q) q ≡ restOf q
 rest-without [] = refl
 rest-without (x ∷ q) = rw (eq-eqb x x refl, without)
 
-module _ (z : Size) (b : Board) (q : List ℕ) (f : ℕ → List ℕ) (a : Sizes z) (h : Stands z b q f)
+module _ (z : Size) (b : Board) (q : List ℕ) (f : ℕ → List ℕ) (a : Sizes z) (h : Settled z b q f)
     (l s : List Entry) (n : ℕ) (w : Named z (plainOf b l s n) q f) where
   abbrev p : Plain
   p = plainOf b l s n
 
   -- an entry of a message that is queued at r is placed there
-  queued-home : (m r : ℕ) → place b m ≡ QueuedAt (taskNo r) → (x : Entry) → ranks.Stands x s → x .id ≡ m → x .at ≡ r
+  queued-home : (m r : ℕ) → place b m ≡ QueuedAt (taskNo r) → (x : Entry) → In x s → x .id ≡ m → x .at ≡ r
   queued-home m r e x i g =
       let u = ap placeByte (sym (entry-queued z b q f a h l s n w x i) ∙ ap (place b) g ∙ e) in
       omega (arith, u)

@@ -7,7 +7,7 @@ use Rattle.board.specs.declared.numbers.Size.{Size}
 use Rattle.board.specs.Board.{Board, boardOf}
 use Rattle.paper.specs.declared.call.Call.{Call}
 use Rattle.paper.specs.Rules.{order}
-use Rattle.paper.specs.Step.{effect}
+use Rattle.paper.specs.Outcomes.{effect}
 use Rattle.paper.specs.History as bytes
 use Rattle.kept.specs.Claims.{Sizes}
 use Rattle.kept.proofs.Reading.{order-walked, queue-walked}
@@ -36,11 +36,11 @@ agreeing-agrees z a l p t =
     same-holds z b q f p (Agrees z l) (t .same) (λ i s n w. record {
       tasks = λ k. refl;
       messages = λ m. refl;
-      places = λ m. places-say z b q f (t .stands) m;
+      places = λ m. places-say z b q f (t .settled) m;
       once = (w .tasks .once, w .messages .once);
-      order = subst (Names i) (sym (order-walked z b q f (t .stands) (a .limit))) (w .order);
-      queues = λ k d. subst (Names (keep (isAt k) s)) (sym (queue-walked z b q f (t .stands) k d)) (w .queues k d);
-      runs = sym (asked-running z b q f a (t .stands) i s n w);
+      order = subst (Names i) (sym (order-walked z b q f (t .settled) (a .limit))) (w .order);
+      queues = λ k d. subst (Names (keep (isAt k) s)) (sym (queue-walked z b q f (t .settled) k d)) (w .queues k d);
+      runs = sym (asked-running z b q f a (t .settled) i s n w);
     })
 
 -- ---- histories

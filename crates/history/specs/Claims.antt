@@ -23,10 +23,10 @@ use Rattle.paper.specs.declared.call.Call.{Call}
 use Rattle.paper.specs.declared.answer.Answer.{Answer}
 use Rattle.paper.specs.Rules.{order, queue}
 use Rattle.paper.specs.Rules as rules
-use Rattle.paper.specs.Step.{blank, Ends, effect, fresh}
+use Rattle.paper.specs.Outcomes.{blank, Ends, effect, fresh}
 use Rattle.paper.specs.History as bytes
 use Rattle.linked.specs.Linked.{Numbered}
-use Rattle.kept.specs.Stands.{Fitting}
+use Rattle.kept.specs.Settled.{Fitting}
 use Rattle.kept.specs.Claims.{Sizes}
 use Rattle.history.specs.Ranking.{Entry, keep, Ranking, Once, Names}
 use Rattle.history.specs.Machine.{Sheet, Block, Whose, Free, Held, Queued, Plain, start, step, running}

@@ -11,6 +11,7 @@ use mathlib.Core.Bool.{Bool, true, cond, not, _&&_, _||_}
 use mathlib.Core.List.{List, [], _∷_, map}
 use Prim.Native.Nat.{ℕ}
 use lib.Dec.{eqb, ltb}
+use Rattle.links.specs.Chain.{In}
 
 pub record Entry : Type 0 where
   pub id : ℕ
@@ -44,10 +45,6 @@ abbrev pub foremost : (Entry → Bool) → List Entry → ℕ
 foremost test l = leads (keep test l)
 
 -- ---- the whole ranking
-abbrev pub Stands : Entry → List Entry → Type 0
-Stands x [] = ⊥
-Stands x (y ∷ q) = (x ≡ y) ⊎ Stands x q
-
 abbrev pub AheadOf : Entry → List Entry → Type 0
 AheadOf x [] = Unit {0}
 AheadOf x (y ∷ q) = (ahead x y ≡ true) × AheadOf x q
@@ -57,13 +54,13 @@ InOrder [] = Unit {0}
 InOrder (x ∷ q) = AheadOf x q × InOrder q
 
 pub record Ranking (l q : List Entry) : Type 0 where
-  pub same : (x : Entry) → Stands x q ↔ Stands x l
+  pub same : (x : Entry) → In x q ↔ In x l
   pub order : InOrder q
 
 -- no two were made at one time
 abbrev pub Once : List Entry → Type 0
 Once [] = Unit {0}
-Once (x ∷ l) = ((y : Entry) → Stands y l → y .time ≢ x .time) × Once l
+Once (x ∷ l) = ((y : Entry) → In y l → y .time ≢ x .time) × Once l
 
 -- the numbers q name the ranking of the entries l
 pub record Names (l : List Entry) (q : List ℕ) : Type 0 where

@@ -14,7 +14,7 @@ use Rattle.paper.specs.declared.call.Call.{Call}
 use Rattle.paper.specs.declared.answer.Refusal.{Refusal}
 use Rattle.paper.specs.declared.answer.Refusal.the-variants.{NobodyRuns}
 use Rattle.paper.specs.Rules.{running}
-use Rattle.paper.specs.Refusals.{Test, no3, no4, no5, Verdict, Go, Stop, own, lowest}
+use Rattle.paper.specs.Refusals.{Test, no3, no4, no5, Verdict, Go, Stop, ownRow, lowest}
 use Rattle.inner.specs.declared.step.Held.{Held}
 use Rattle.inner.specs.declared.step.Held.the-variants as held
 use Rattle.inner.specs.declared.step.Placed.{Placed}
@@ -69,7 +69,7 @@ module _ (z : Size) (l : List ℕ) (call : Call) where
   places k d v ek = placed-by Go v (placed.By k) d (ap placed.By ek)
 
   -- ---- a row that opens with 3
-  module _ (tests : List Test) (row : own z b c call ≡ no3 c ∷ tests) (who : TaskMeant) (found : who ≡ taskMeant z c) where
+  module _ (tests : List Test) (row : ownRow z b c call ≡ no3 c ∷ tests) (who : TaskMeant) (found : who ≡ taskMeant z c) where
     -- nobody runs
     pub nobody-stops : (d : List ℕ) → who ≡ NoTask → d ≡ l → Makes (Stopped NobodyRuns) d (stepping z l call)
     nobody-stops d e = stops NobodyRuns d (ap lowest row ∙ lowest-stop (no3 c) tests (nobody-runs z l (sym found ∙ e)))
@@ -79,7 +79,7 @@ module _ (z : Size) (l : List ℕ) (call : Call) where
     one-goes k e = let r = one-runs z l k (sym found ∙ e) in (ap lowest row ∙ lowest-on (no3 c) tests (r .0), r .1)
 
   -- ---- a row that opens with 3, 4 and 5
-  module _ (w : ℕ) (tests : List Test) (row : own z b c call ≡ no3 c ∷ no4 z w ∷ no5 b c w ∷ tests) (h : Held)
+  module _ (w : ℕ) (tests : List Test) (row : ownRow z b c call ≡ no3 c ∷ no4 z w ∷ no5 b c w ∷ tests) (h : Held)
       (found : h ≡ heldOf z b c w) where
     stop : (q : Refusal) → h ≡ held.Not q → verdict z l call ≡ Stop q
     stop q e = ap lowest row ∙ not-held-row z b c w q tests (sym found ∙ e)

@@ -29,8 +29,8 @@ use Rattle.paper.specs.declared.answer.Refusal.the-variants.{NothingToDeliver}
 use Rattle.paper.specs.declared.answer.Answer.the-variants.{Accepted, Refused}
 use Rattle.paper.specs.Rules.{nextMessage, emptyQueue, running}
 use Rattle.paper.specs.Effects.{ownPrio, lowestFree, find}
-use Rattle.paper.specs.Refusals.{Verdict, own, lowest}
-use Rattle.paper.specs.Step.{Outcome}
+use Rattle.paper.specs.Refusals.{Verdict, ownRow, lowest}
+use Rattle.paper.specs.Outcomes.{Outcome}
 use Rattle.queue.specs.Moves.{setsIn, clearsIn, mptrIn, holdIn, queueInto, queueOut, orderInto, orderOut}
 use Rattle.inner.specs.declared.step.Placed.{Placed}
 use Rattle.inner.specs.declared.step.Step.{Step}
@@ -132,7 +132,7 @@ pub record Makes {A : Type 0} (a : A) (l : List ℕ) (m : Move A) : Type 0 where
 
 -- the verdict of the row below 1 and 2
 abbrev pub verdict : Size → List ℕ → Call → Verdict
-verdict z l call = let b = boardOf z l in lowest (own z b (running z b) call)
+verdict z l call = let b = boardOf z l in lowest (ownRow z b (running z b) call)
 
 abbrev pub placing : Size → List ℕ → Call → Move Placed
 placing z l call = let c = running z (boardOf z l) in

@@ -24,15 +24,15 @@ use Rattle.paper.specs.declared.call.Call.the-variants.{CancelTask}
 use Rattle.paper.specs.Rules.{isThere, present, nextTask, nextMessage, emptyQueue, taskNumber}
 use Rattle.paper.specs.Changes.{linkTask, withOrder}
 use Rattle.paper.specs.Effects.{cancelTask}
-use Rattle.paper.specs.Refusals.{no3, no6, holdsOne, no10, own, Go, lowest}
+use Rattle.paper.specs.Refusals.{no3, no6, holdsOne, no10, ownRow, Go, lowest}
 use Rattle.linked.specs.Linked.{Numbered}
-use Rattle.kept.specs.Stands.{Stands}
+use Rattle.kept.specs.Settled.{Settled}
 use Rattle.kept.specs.After.{orderAfter}
 use Rattle.kept.specs.Claims.{Sizes}
 use Rattle.kept.proofs.Reading.{task-put, task-other, present-numbered, sorted-stays}
-use Rattle.kept.proofs.Reading.{kept-stays, which-none, order-walked, go-passed, neither, task-passed}
+use Rattle.kept.proofs.Reading.{good-stays, which-none, order-walked, go-passed, neither, task-passed}
 use Rattle.kept.proofs.Flagging.{flags-ready}
-use Rattle.kept.proofs.Installing.{stands-order}
+use Rattle.kept.proofs.Installing.{settled-order}
 
 -- ---- a record written behind links or before them
 link-task : (b : Board) (x v k : ℕ) (t : Task) → x ≢ k → withTask (linkTask b x v) k t ≡ linkTask (withTask b k t) x v
@@ -56,7 +56,7 @@ order-task b q k t o =
     λ i. withFirst (relink-task b q k t o i) (firstOf q)
 
 -- ---- cancel task
-module _ (z : Size) (b : Board) (q : List ℕ) (queues : ℕ → List ℕ) (a : Sizes z) (s : Stands z b q queues) (k : ℕ) where
+module _ (z : Size) (b : Board) (q : List ℕ) (queues : ℕ → List ℕ) (a : Sizes z) (s : Settled z b q queues) (k : ℕ) where
   -- a task with an empty queue has no message queued
   none-queued : Numbered (z .tasks) k → task b k .mptr ≡ 0 → (m : ℕ) → place b m ≢ QueuedAt (taskNo k)
   none-queued n e m p =
@@ -103,26 +103,26 @@ module _ (z : Size) (b : Board) (q : List ℕ) (queues : ℕ → List ℕ) (a : 
         none-queued (rw (s .fits .tasks) at (present-numbered b k here)) empty m (p ∙ ap (λ (x : ℕ). QueuedAt (taskNo x)) e)
 
     -- a task with an empty queue that holds no message goes
-    pub stands-cancel : Stands z (cancelTask z b k) (without k q) queues
-    stands-cancel =
-        subst (λ (l : List ℕ). Stands z (withTask (withOrder b (without k l)) k noTask) (without k q) queues)
+    pub settled-cancel : Settled z (cancelTask z b k) (without k q) queues
+    settled-cancel =
+        subst (λ (l : List ℕ). Settled z (withTask (withOrder b (without k l)) k noTask) (without k q) queues)
         (sym (order-walked z b q queues s (a .limit)))
-        (subst (λ (c : Board). Stands z c (without k q) queues)
+        (subst (λ (c : Board). Settled z c (without k q) queues)
         (sym (order-task b (without k q) k noTask (out-without k q once)))
-        (stands-order z b q queues a s k noTask (without k q)
+        (settled-order z b q queues a s k noTask (without k q)
         (record { stat = lit< tt; prio = lit< tt; link = lit< tt; mptr = lit< tt; sptr = lit< tt; name = lit< tt }) (inl refl)
         (flags-ready (stored 0) (0 ≡ 0) refl refl (λ e. absurd (true≢false (sym e)))) (sym empty)
-        (λ m n. kept-stays z b gone m (place b m) refl (λ j w p. ap isThere (same-others j (another m j w)) ∙ p) (s .kept m n))
+        (λ m n. good-stays z b gone m (place b m) refl (λ j w p. ap isThere (same-others j (another m j w)) ∙ p) (s .places m n))
         (once-without k q once) listed-exact listed-sorted))
 
   -- so its row has it
-  pub cancel-stands : (c : ℕ) → lowest (own z b c (CancelTask k)) ≡ Go
-      → Stands z (cancelTask z b k) (orderAfter b q (CancelTask k)) queues
-  cancel-stands c g =
+  pub cancel-settled : (c : ℕ) → lowest (ownRow z b c (CancelTask k)) ≡ Go
+      → Settled z (cancelTask z b k) (orderAfter b q (CancelTask k)) queues
+  cancel-settled c g =
       let runs = go-passed (no3 c) (no6 z b k ∷ no10 b k ∷ []) g in
       let meant = go-passed (no6 z b k) (no10 b k ∷ []) (runs .1) in
       let idle = go-passed (no10 b k) [] (meant .1) in
       let parked = neither (not (emptyQueue b k) || holdsOne b k) (has (task b k .stat) IWAT) (idle .0) in
       let none = neither (not (emptyQueue b k)) (holdsOne b k) (parked .0) in
-      stands-cancel (task-passed z b k (meant .0) .1) (eqb-true (task b k .mptr) 0 (not-false (emptyQueue b k) (none .0)))
+      settled-cancel (task-passed z b k (meant .0) .1) (eqb-true (task b k .mptr) 0 (not-false (emptyQueue b k) (none .0)))
       (none-held (none .1))

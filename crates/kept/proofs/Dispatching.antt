@@ -1,4 +1,4 @@
--- Dispatch on a board that stands: a running task that is due a message has one, it runs on with that message, and R7 then holds.
+-- Dispatch on a board that is settled: a running task that is due a message has one, it runs on with that message, and R7 then holds.
 -- Assumes nothing.
 use mathlib.Core.Path.{_≡_, refl, sym, ap, ap₂, _∙_, fun-ext}
 use mathlib.Core.Bool.{Bool, true, false, true≢false}
@@ -14,15 +14,15 @@ use Rattle.board.specs.Board.{Board, bytesOf, task}
 use Rattle.board.proofs.Bits.{withoutBit-has, withoutBit-other}
 use Rattle.paper.specs.Rules.{present, queue, emptyQueue, ready, running}
 use Rattle.paper.specs.Changes.{clears, takeFirst}
-use Rattle.paper.specs.Step.{accepted, Done, done, dispatch}
-use Rattle.kept.specs.Stands.{Stands}
+use Rattle.paper.specs.Outcomes.{accepted, Undispatched, undispatched, dispatch}
+use Rattle.kept.specs.Settled.{Settled}
 use Rattle.kept.specs.After.{changed}
 use Rattle.kept.specs.Claims.{Sizes}
 use Rattle.kept.proofs.Reading.{task-put, task-alike, present-numbered, order-walked, runner-says}
-use Rattle.kept.proofs.Taking.{take-stat, due-queued, deliver-stands}
+use Rattle.kept.proofs.Taking.{take-stat, due-queued, deliver-settled}
 
 -- ---- a delivery
-module _ (z : Size) (b : Board) (order : List ℕ) (queues : ℕ → List ℕ) (sizes : Sizes z) (stands : Stands z b order queues)
+module _ (z : Size) (b : Board) (order : List ℕ) (queues : ℕ → List ℕ) (sizes : Sizes z) (settled : Settled z b order queues)
     (due : has (task b (running z b) .stat) MHBS ≡ true) where
   abbrev c : ℕ
   c = running z b
@@ -35,10 +35,10 @@ module _ (z : Size) (b : Board) (order : List ℕ) (queues : ℕ → List ℕ) (
 
   -- there is a message for it
   pub dispatch-delivers : emptyQueue b (running z b) ≡ false
-  dispatch-delivers = ne-eqb (task b c .mptr) 0 (due-queued z b order queues sizes stands c runner due)
+  dispatch-delivers = ne-eqb (task b c .mptr) 0 (due-queued z b order queues sizes settled c runner due)
 
-  after-stands : Stands z after order (changed queues c (restOf (queues c)))
-  after-stands = deliver-stands z b order queues sizes stands c runner due
+  after-settled : Settled z after order (changed queues c (restOf (queues c)))
+  after-settled = deliver-settled z b order queues sizes settled c runner due
 
   -- whoever was ready is
   ready-stays : (k : ℕ) → ready after k ≡ ready b k
@@ -53,7 +53,7 @@ module _ (z : Size) (b : Board) (order : List ℕ) (queues : ℕ → List ℕ) (
   pub running-kept : running z (clears (takeFirst z b (running z b)) (running z b) MHBS) ≡ running z b
   running-kept =
       ap₂ firstWith (fun-ext ready-stays)
-      (order-walked z after order _ after-stands (sizes .limit) ∙ sym (order-walked z b order queues stands (sizes .limit)))
+      (order-walked z after order _ after-settled (sizes .limit) ∙ sym (order-walked z b order queues settled (sizes .limit)))
 
   -- and is due none
   runner-idle : has (task after (running z after) .stat) MHBS ≡ false
@@ -64,30 +64,30 @@ module _ (z : Size) (b : Board) (order : List ℕ) (queues : ℕ → List ℕ) (
       ∙ withoutBit-has (task (takeFirst z b c) c .stat) MHBS refl
 
 -- ---- what dispatch leaves
--- it accepts, naming who then runs, and the board that it leaves stands and keeps R7
-pub record Dispatched (z : Size) (order l : List ℕ) (d : Done) : Type 0 where
+-- it accepts, naming who then runs, and the board that it leaves is settled and keeps R7
+pub record Handing (z : Size) (order l : List ℕ) (d : Undispatched) : Type 0 where
   pub board : Board
   pub queues : ℕ → List ℕ
   pub delivered : ℕ
   pub ends : dispatch z l d ≡ accepted (d .value) (running z board) delivered (bytesOf board)
-  pub stands : Stands z board order queues
+  pub settled : Settled z board order queues
   pub runner : has (task board (running z board) .stat) MHBS ≡ false
 
 module _ (z : Size) (order l : List ℕ) (queues : ℕ → List ℕ) (v : ℕ) (b : Board) (sizes : Sizes z)
-    (stands : Stands z b order queues) where
-  -- so it is for each board that stands
-  pub dispatched : Dispatched z order l (done v b)
+    (settled : Settled z b order queues) where
+  -- so it is for each board that is settled
+  pub dispatched : Handing z order l (undispatched v b)
   dispatched = step (has (task b (running z b) .stat) MHBS) refl
     where
-      step : (t : Bool) → has (task b (running z b) .stat) MHBS ≡ t → Dispatched z order l (done v b)
+      step : (t : Bool) → has (task b (running z b) .stat) MHBS ≡ t → Handing z order l (undispatched v b)
       step true e = let c = running z b in record {
         board = clears (takeFirst z b c) c MHBS;
         queues = changed queues c (restOf (queues c));
         delivered = firstOf (queue z b c);
-        ends = rw (e, dispatch-delivers z b order queues sizes stands e)
+        ends = rw (e, dispatch-delivers z b order queues sizes settled e)
             (ap (λ (k : ℕ). accepted v k (firstOf (queue z b c)) (bytesOf (clears (takeFirst z b c) c MHBS)))
-            (sym (running-kept z b order queues sizes stands e)));
-        stands = after-stands z b order queues sizes stands e;
-        runner = runner-idle z b order queues sizes stands e;
+            (sym (running-kept z b order queues sizes settled e)));
+        settled = after-settled z b order queues sizes settled e;
+        runner = runner-idle z b order queues sizes settled e;
       }
-      step false e = record { board = b; queues = queues; delivered = 0; ends = rw e; stands = stands; runner = e }
+      step false e = record { board = b; queues = queues; delivered = 0; ends = rw e; settled = settled; runner = e }

@@ -24,7 +24,7 @@ use Rattle.board.specs.Board.{Area, Board, board, taskArea, messageArea, placeA
 use Rattle.board.proofs.Numbered.{nth-map}
 use Rattle.board.proofs.Pieces.{outside-within, nth-outside, length-pieces, piece-byte}
 use Rattle.board.proofs.Codec.{Small, small-at, task-back, message-back, length-tasks, length-messages, length-places}
-use Rattle.kept.specs.Stands.{Byte, Word, FitsTask, FitsMessage, Fits}
+use Rattle.kept.specs.Settled.{Byte, Word, FitsTask, FitsMessage, Fits}
 use Rattle.kept.specs.Claims.{Bytes}
 use Rattle.kept.proofs.Reading.{cond-holds, FitsPlace}
 

@@ -21,12 +21,12 @@ use Rattle.paper.specs.declared.call.Call.the-variants.{PostInterrupt, WaitForI
 use Rattle.paper.specs.Rules.{isThere, present, nextTask, nextMessage, taskNumber, messageNumber, running}
 use Rattle.paper.specs.Changes.{sets, clears}
 use Rattle.paper.specs.Effects.{post, waitInterrupt}
-use Rattle.paper.specs.Refusals.{no3, no6, own, Go, lowest}
+use Rattle.paper.specs.Refusals.{no3, no6, ownRow, Go, lowest}
 use Rattle.linked.specs.Linked.{Numbered, Linked}
-use Rattle.linked.specs.Sound.{Proper, Kept, Flags}
-use Rattle.kept.specs.Stands.{Byte, FitsTask, Fits, Stands}
+use Rattle.linked.specs.Sound.{Proper, PlaceGood, Flags}
+use Rattle.kept.specs.Settled.{Byte, FitsTask, Fits, Settled}
 use Rattle.kept.proofs.Reading.{cond-holds, nth-cases, task-put, task-other, task-alike, present-numbered, fits-task}
-use Rattle.kept.proofs.Reading.{listing-stays, listing-start, Lawful, present-proper, kept-stays}
+use Rattle.kept.proofs.Reading.{listing-stays, listing-start, Lawful, present-proper, good-stays}
 use Rattle.kept.proofs.Reading.{runner-says, go-passed, runner-passed, task-passed}
 
 -- ---- flags that go together
@@ -73,37 +73,37 @@ abbrev pub Flagged : Task → Type 0
 Flagged t = Flags (t .stat) (t .mptr ≡ 0)
 
 -- ---- R1 to R6 but for the flags of task k
-pub record StandsBut (z : Size) (b : Board) (order : List ℕ) (queues : ℕ → List ℕ) (k : ℕ) : Type 0 where
+pub record SettledBut (z : Size) (b : Board) (order : List ℕ) (queues : ℕ → List ℕ) (k : ℕ) : Type 0 where
   pub fits : Fits z b
   pub byte1 : b .byte1 ≡ 0
   pub zeros : All (λ x. x ≡ 0) (b .zeros)
   pub records : (j : ℕ) → Numbered (z .tasks) j → Lawful (task b j)
   pub linked : Linked z b order queues
-  pub kept : (m : ℕ) → Numbered (z .messages) m → Kept z b m (place b m)
+  pub places : (m : ℕ) → Numbered (z .messages) m → PlaceGood z b m (place b m)
   pub flags : (j : ℕ) → Numbered (z .tasks) j → j ≢ k → Flagged (task b j)
 
 module _ (z : Size) (b : Board) (order : List ℕ) (queues : ℕ → List ℕ) (k : ℕ) where
-  -- a board that stands stands but for any task
-  pub stands-but : Stands z b order queues → StandsBut z b order queues k
-  stands-but s = record {
+  -- a board that is settled is so but for any task
+  pub settled-but : Settled z b order queues → SettledBut z b order queues k
+  settled-but s = record {
     fits = s .fits;
     byte1 = s .byte1;
     zeros = s .zeros;
     records = s .records;
     linked = s .linked;
-    kept = s .kept;
+    places = s .places;
     flags = λ j h n. s .flags j h;
   }
 
-  -- and where that task's flags go together it stands
-  pub but-stands : StandsBut z b order queues k → Flagged (task b k) → Stands z b order queues
-  but-stands s f = record {
+  -- and where that task's flags go together it is settled
+  pub but-settled : SettledBut z b order queues k → Flagged (task b k) → Settled z b order queues
+  but-settled s f = record {
     fits = s .fits;
     byte1 = s .byte1;
     zeros = s .zeros;
     records = s .records;
     linked = s .linked;
-    kept = s .kept;
+    places = s .places;
     flags = λ j h. step j h (ℕ-discrete j k);
   }
     where
@@ -118,7 +118,7 @@ Good s = Byte (s .0) × (has s TCBB ≡ true) × (has s BIT5 ≡ false)
 
 module _ (z : Size) (b : Board) (order : List ℕ) (queues : ℕ → List ℕ) (k : ℕ) (p : present b k ≡ true) where
   -- the task has one that is proper
-  proper-old : StandsBut z b order queues k → Proper (task b k)
+  proper-old : SettledBut z b order queues k → Proper (task b k)
   proper-old h = present-proper (task b k) (h .records k (rw (h .fits .tasks) at (present-numbered b k p))) p
 
   module _ (s : Status) (g : Good s) where
@@ -138,7 +138,7 @@ module _ (z : Size) (b : Board) (order : List ℕ) (queues : ℕ → List ℕ) (
     same-present j = task-alike isThere b k j t (g .1 ∙ sym p)
 
     -- all but its flags stays
-    pub but-stat : StandsBut z b order queues k → StandsBut z (withTask b k (taskWithStat (task b k) s)) order queues k
+    pub but-stat : SettledBut z b order queues k → SettledBut z (withTask b k (taskWithStat (task b k) s)) order queues k
     but-stat h = record {
       fits = fits-task z b (h .fits) k t (fits-new (h .fits .task k));
       byte1 = h .byte1;
@@ -153,7 +153,7 @@ module _ (z : Size) (b : Board) (order : List ℕ) (queues : ℕ → List ℕ) (
             listing-start (nextMessage b) (messageNumber b) (task b j .mptr) (task c j .mptr) (queues j) _
             (task-alike (λ (x : Task). x .mptr) b k j t refl) (h .linked .messages j n);
       };
-      kept = λ m n. kept-stays z b c m (place b m) refl (λ j w e. same-present j ∙ e) (h .kept m n);
+      places = λ m n. good-stays z b c m (place b m) refl (λ j w e. same-present j ∙ e) (h .places m n);
       flags = λ j n d. subst Flagged (sym (task-other b k j t d)) (h .flags j n d);
     }
 
@@ -161,10 +161,10 @@ module _ (z : Size) (b : Board) (order : List ℕ) (queues : ℕ → List ℕ) (
     pub flags-read : Flags s (task b k .mptr ≡ 0) → Flagged (task (withTask b k (taskWithStat (task b k) s)) k)
     flags-read f = subst Flagged (sym (task-put b k t (present-numbered b k p))) f
 
-    -- where they go together the board stands
-    pub stands-stat : Stands z b order queues → Flags s (task b k .mptr ≡ 0)
-        → Stands z (withTask b k (taskWithStat (task b k) s)) order queues
-    stands-stat h f = but-stands z c order queues k (but-stat (stands-but z b order queues k h)) (flags-read f)
+    -- where they go together the board is settled
+    pub settled-stat : Settled z b order queues → Flags s (task b k .mptr ≡ 0)
+        → Settled z (withTask b k (taskWithStat (task b k) s)) order queues
+    settled-stat h f = but-settled z c order queues k (but-stat (settled-but z b order queues k h)) (flags-read f)
 
 -- ---- a bit set, a bit cleared
 -- a bit of the byte, apart from the two that R2 speaks of
@@ -189,14 +189,14 @@ module _ (z : Size) (b : Board) (order : List ℕ) (queues : ℕ → List ℕ) (
   abbrev o : Status
   o = task b k .stat
 
-  good-set : StandsBut z b order queues k → Good (withBit o bit)
+  good-set : SettledBut z b order queues k → Good (withBit o bit)
   good-set h = (
     withBit-small o bit (h .fits .task k .stat) (a .0),
     withBit-other o bit TCBB (a .1) ∙ p,
     withBit-other o bit BIT5 (a .2) ∙ proper-old z b order queues k p h .bit5,
   )
 
-  good-clear : StandsBut z b order queues k → Good (withoutBit o bit)
+  good-clear : SettledBut z b order queues k → Good (withoutBit o bit)
   good-clear h = (
     withoutBit-small o bit (h .fits .task k .stat),
     withoutBit-other o bit TCBB (a .3) ∙ p,
@@ -204,18 +204,18 @@ module _ (z : Size) (b : Board) (order : List ℕ) (queues : ℕ → List ℕ) (
   )
 
   -- cleared, all but the flags stays
-  pub but-clears : StandsBut z b order queues k → StandsBut z (clears b k bit) order queues k
+  pub but-clears : SettledBut z b order queues k → SettledBut z (clears b k bit) order queues k
   but-clears h = but-stat z b order queues k p (withoutBit o bit) (good-clear h) h
 
-  -- set, the board stands where the flags then go together
-  pub stands-sets : Stands z b order queues → Flags (withBit (task b k .stat) bit) (task b k .mptr ≡ 0)
-      → Stands z (sets b k bit) order queues
-  stands-sets h f = stands-stat z b order queues k p (withBit o bit) (good-set (stands-but z b order queues k h)) h f
+  -- set, the board is settled where the flags then go together
+  pub settled-sets : Settled z b order queues → Flags (withBit (task b k .stat) bit) (task b k .mptr ≡ 0)
+      → Settled z (sets b k bit) order queues
+  settled-sets h f = settled-stat z b order queues k p (withBit o bit) (good-set (settled-but z b order queues k h)) h f
 
   -- cleared, likewise
-  pub stands-clears : Stands z b order queues → Flags (withoutBit (task b k .stat) bit) (task b k .mptr ≡ 0)
-      → Stands z (clears b k bit) order queues
-  stands-clears h f = stands-stat z b order queues k p (withoutBit o bit) (good-clear (stands-but z b order queues k h)) h f
+  pub settled-clears : Settled z b order queues → Flags (withoutBit (task b k .stat) bit) (task b k .mptr ≡ 0)
+      → Settled z (clears b k bit) order queues
+  settled-clears h f = settled-stat z b order queues k p (withoutBit o bit) (good-clear (settled-but z b order queues k h)) h f
 
 -- ---- post interrupt
 module _ (s : Status) (Empty : Type 0) (f : Flags s Empty) where
@@ -236,36 +236,36 @@ module _ (s : Status) (Empty : Type 0) (f : Flags s Empty) where
       flags-alike s (withBit s INTQ) Empty (withBit-other s INTQ WAIT refl) (withBit-other s INTQ IWAT refl)
       (withBit-other s INTQ MHBS refl) e f
 
-module _ (z : Size) (b : Board) (order : List ℕ) (queues : ℕ → List ℕ) (h : Stands z b order queues) where
+module _ (z : Size) (b : Board) (order : List ℕ) (queues : ℕ → List ℕ) (h : Settled z b order queues) where
   -- a present task is posted
-  pub stands-post : (k : ℕ) → present b k ≡ true → Stands z (post b k) order queues
-  stands-post k p =
+  pub settled-post : (k : ℕ) → present b k ≡ true → Settled z (post b k) order queues
+  settled-post k p =
       let f = h .flags k (rw (h .fits .tasks) at (present-numbered b k p)) in
-      cond-holds (λ (c : Board). Stands z c order queues) (has (task b k .stat) IWAT) (clears b k IWAT) (sets b k INTQ)
-      (λ e. stands-clears z b order queues k IWAT p apart-IWAT h (flags-woken (task b k .stat) _ f e))
-      (λ e. stands-sets z b order queues k INTQ p apart-INTQ h (flags-posted (task b k .stat) _ f e))
+      cond-holds (λ (c : Board). Settled z c order queues) (has (task b k .stat) IWAT) (clears b k IWAT) (sets b k INTQ)
+      (λ e. settled-clears z b order queues k IWAT p apart-IWAT h (flags-woken (task b k .stat) _ f e))
+      (λ e. settled-sets z b order queues k INTQ p apart-INTQ h (flags-posted (task b k .stat) _ f e))
 
   -- so its row has it
-  pub post-stands : (c k : ℕ) → lowest (own z b c (PostInterrupt k)) ≡ Go → Stands z (post b k) order queues
-  post-stands c k g = stands-post k (task-passed z b k (go-passed (no6 z b k) [] g .0) .1)
+  pub post-settled : (c k : ℕ) → lowest (ownRow z b c (PostInterrupt k)) ≡ Go → Settled z (post b k) order queues
+  post-settled c k g = settled-post k (task-passed z b k (go-passed (no6 z b k) [] g .0) .1)
 
   -- ---- wait for interrupt
   -- a ready task that isn't due a message goes on or is parked
-  pub stands-wait : (c : ℕ) → present b c ≡ true → let s = task b c .stat in has s WAIT ≡ false → has s IWAT ≡ false
-      → has s MHBS ≡ false → Stands z (waitInterrupt b c) order queues
-  stands-wait c p w i m =
+  pub settled-wait : (c : ℕ) → present b c ≡ true → let s = task b c .stat in has s WAIT ≡ false → has s IWAT ≡ false
+      → has s MHBS ≡ false → Settled z (waitInterrupt b c) order queues
+  settled-wait c p w i m =
       let s : Status = task b c .stat in
-      cond-holds (λ (c : Board). Stands z c order queues) (has s INTQ) (clears b c INTQ) (sets b c IWAT)
-      (λ e. stands-clears z b order queues c INTQ p apart-INTQ h (flags-ready (withoutBit s INTQ) _
+      cond-holds (λ (c : Board). Settled z c order queues) (has s INTQ) (clears b c INTQ) (sets b c IWAT)
+      (λ e. settled-clears z b order queues c INTQ p apart-INTQ h (flags-ready (withoutBit s INTQ) _
       (withoutBit-other s INTQ WAIT refl ∙ w) (withoutBit-other s INTQ IWAT refl ∙ i)
       (λ d. absurd (true≢false (sym d ∙ withoutBit-other s INTQ MHBS refl ∙ m)))))
-      (λ e. stands-sets z b order queues c IWAT p apart-IWAT h (flags-parked (withBit s IWAT) _
+      (λ e. settled-sets z b order queues c IWAT p apart-IWAT h (flags-parked (withBit s IWAT) _
       (withBit-other s IWAT WAIT refl ∙ w) (withBit-other s IWAT INTQ refl ∙ e) (withBit-other s IWAT MHBS refl ∙ m)))
 
   -- so its row and R7 have it
-  pub wait-stands : let c = running z b in has (task b c .stat) MHBS ≡ false → lowest (own z b c WaitForInterrupt) ≡ Go
-      → Stands z (waitInterrupt b c) order queues
-  wait-stands m g =
+  pub wait-settled : let c = running z b in has (task b c .stat) MHBS ≡ false → lowest (ownRow z b c WaitForInterrupt) ≡ Go
+      → Settled z (waitInterrupt b c) order queues
+  wait-settled m g =
       let c : ℕ = running z b in
       let r = runner-says z b (runner-passed c (go-passed (no3 c) [] g .0)) in
-      stands-wait c (r .0) (r .1) (r .2) m
+      settled-wait c (r .0) (r .1) (r .2) m

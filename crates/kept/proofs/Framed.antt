@@ -1,4 +1,4 @@
--- What each body keeps, whoever runs and whether or not the board stands: the claims about frames, proved.
+-- What each body keeps, whoever runs and whether or not the board is settled: the claims about frames, proved.
 -- Assumes nothing.
 use mathlib.Core.Path.{_≡_, refl, sym, subst, fun-ext}
 use mathlib.Core.Logic.{_⊎_, inl, inr}
@@ -22,7 +22,7 @@ use Rattle.paper.specs.declared.call.Call.the-variants.{Install, PostInterrupt,
 use Rattle.paper.specs.Rules.{order, queue, emptyQueue, nextMessage, taskNumber, running}
 use Rattle.paper.specs.Changes.{sets, clears, linkMessage, hold, takeFirst}
 use Rattle.paper.specs.Effects.{queueWith, woken, emptied, placeAt, addressed, send, waits}
-use Rattle.paper.specs.Step.{body}
+use Rattle.paper.specs.Outcomes.{body}
 use Rattle.kept.specs.Frames.{tasksOf, messagesOf, queueOf, relinks, Frame}
 use Rattle.kept.specs.Claims.{BodyFrame, DispatchFrame}
 use Rattle.kept.proofs.Reading.{cond-holds}

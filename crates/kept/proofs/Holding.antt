@@ -1,4 +1,4 @@
--- A message that stands in no queue: its record or its place written leaves every queue. Claim, release and prepare.
+-- A message that is settled in no queue: its record or its place written leaves every queue. Claim, release and prepare.
 -- Assumes nothing.
 use mathlib.Core.Path.{_≡_, refl, sym, ap, _∙_, subst}
 use mathlib.Core.Logic.{_≢_, _↔_}
@@ -24,13 +24,13 @@ use Rattle.board.proofs.Codec.{place-held}
 use Rattle.paper.specs.declared.call.Call.the-variants.{Claim, Prepare, Release}
 use Rattle.paper.specs.Rules.{present, nextMessage, messageNumber, running}
 use Rattle.paper.specs.Effects.{lowestFree, claim, release, prepare}
-use Rattle.paper.specs.Refusals.{no3, no11, no14, own, Go, lowest}
+use Rattle.paper.specs.Refusals.{no3, no11, no14, ownRow, Go, lowest}
 use Rattle.linked.specs.Linked.{Numbered}
-use Rattle.linked.specs.Sound.{Pointers, Kept}
-use Rattle.kept.specs.Stands.{Byte, Word, FitsMessage, Stands, Fitting}
+use Rattle.linked.specs.Sound.{Pointers, PlaceGood}
+use Rattle.kept.specs.Settled.{Byte, Word, FitsMessage, Settled, Fitting}
 use Rattle.kept.specs.Claims.{Sizes}
 use Rattle.kept.proofs.Reading.{nth-cases, message-put, message-other, present-numbered, placed-numbered, held-placed}
-use Rattle.kept.proofs.Reading.{FitsPlace, fits-message, fits-place, listing-stays, kept-stays, which-first}
+use Rattle.kept.proofs.Reading.{FitsPlace, fits-message, fits-place, listing-stays, good-stays, which-first}
 use Rattle.kept.proofs.Reading.{runner-says, go-passed, runner-passed, held-row}
 
 -- ---- in no queue
@@ -40,16 +40,16 @@ isQueued (HeldBy k) = false
 isQueued (QueuedAt k) = true
 isQueued (Nowhere p) = false
 
-module _ (z : Size) (b : Board) (order : List ℕ) (queues : ℕ → List ℕ) (s : Stands z b order queues) (m : ℕ) where
+module _ (z : Size) (b : Board) (order : List ℕ) (queues : ℕ → List ℕ) (s : Settled z b order queues) (m : ℕ) where
   -- it is no member of any
   pub unqueued-out : isQueued (place b m) ≡ false → (k : ℕ) → Numbered (z .tasks) k → (y : ℕ) → In y (queues k) → y ≢ m
   unqueued-out u k h y i e =
       true≢false (sym (ap isQueued (s .linked .messages k h .exact y .0 i)) ∙ ap (λ (x : ℕ). isQueued (place b x)) e ∙ u)
 
   -- its place written
-  pub stands-place : (p : Place) → isQueued (place b m) ≡ false → isQueued p ≡ false → FitsPlace z p → Kept z b m p
-      → Stands z (withPlace b m p) order queues
-  stands-place p u v f g = record {
+  pub settled-place : (p : Place) → isQueued (place b m) ≡ false → isQueued p ≡ false → FitsPlace z p → PlaceGood z b m p
+      → Settled z (withPlace b m p) order queues
+  settled-place p u v f g = record {
     fits = fits-place z b (s .fits) m p f;
     byte1 = s .byte1;
     zeros = s .zeros;
@@ -60,9 +60,9 @@ module _ (z : Size) (b : Board) (order : List ℕ) (queues : ℕ → List ℕ) (
           listing-stays (nextMessage b) (nextMessage b) (messageNumber b) (messageNumber b) (task b k .mptr) (queues k) _ _
           (λ y i. refl) (λ y i. refl) (same k) (s .linked .messages k h);
     };
-    kept = λ j h.
-        kept-stays z b (withPlace b m p) j (place (withPlace b m p) j) refl (λ k w t. t)
-        (nth-cases (Kept z b j) Free (b .places) m j p (λ e. subst (λ (x : ℕ). Kept z b x p) (sym e) g) (s .kept j h));
+    places = λ j h.
+        good-stays z b (withPlace b m p) j (place (withPlace b m p) j) refl (λ k w t. t)
+        (nth-cases (PlaceGood z b j) Free (b .places) m j p (λ e. subst (λ (x : ℕ). PlaceGood z b x p) (sym e) g) (s .places j h));
     flags = s .flags;
   }
     where
@@ -81,8 +81,8 @@ module _ (z : Size) (b : Board) (order : List ℕ) (queues : ℕ → List ℕ) (
     held-numbered = rw (s .fits .places) at (placed-numbered b m (held-placed b m c e))
 
     -- and R4 says of it
-    pub held-kept : Kept z b m (HeldBy (taskNo c))
-    held-kept = subst (Kept z b m) e (s .kept m held-numbered)
+    pub held-good : PlaceGood z b m (HeldBy (taskNo c))
+    held-good = subst (PlaceGood z b m) e (s .places m held-numbered)
 
     -- ---- its record written
     module _ (r : Message) (f : FitsMessage r) (p : Pointers z r) (l : r .link ≡ 0) where
@@ -92,16 +92,16 @@ module _ (z : Size) (b : Board) (order : List ℕ) (queues : ℕ → List ℕ) (
       same-queued : (k : ℕ) → Numbered (z .tasks) k → (y : ℕ) → In y (queues k) → message d y ≡ message b y
       same-queued k h y i = message-other b m y r (unqueued-out (ap isQueued e) k h y i)
 
-      kept-new : Kept z d m (HeldBy (taskNo c))
-      kept-new = rw (message-put b m r (rw (← s .fits .messages) at held-numbered)) (p, l, held-kept .2)
+      good-new : PlaceGood z d m (HeldBy (taskNo c))
+      good-new = rw (message-put b m r (rw (← s .fits .messages) at held-numbered)) (p, l, held-good .2)
 
-      kept-each : (j : ℕ) → Numbered (z .messages) j → Dec (j ≡ m) → Kept z d j (place b j)
-      kept-each j h (yes q) = subst (λ (x : ℕ). Kept z d x (place b x)) (sym q) (subst (Kept z d m) (sym e) kept-new)
-      kept-each j h (no n) = kept-stays z b d j (place b j) (message-other b m j r n) (λ k w t. t) (s .kept j h)
+      good-each : (j : ℕ) → Numbered (z .messages) j → Dec (j ≡ m) → PlaceGood z d j (place b j)
+      good-each j h (yes q) = subst (λ (x : ℕ). PlaceGood z d x (place b x)) (sym q) (subst (PlaceGood z d m) (sym e) good-new)
+      good-each j h (no n) = good-stays z b d j (place b j) (message-other b m j r n) (λ k w t. t) (s .places j h)
 
       -- LINK 0, and task numbers for RPTR and SPTR
-      pub stands-record : Stands z (withMessage b m r) order queues
-      stands-record = record {
+      pub settled-record : Settled z (withMessage b m r) order queues
+      settled-record = record {
         fits = fits-message z b (s .fits) m r f;
         byte1 = s .byte1;
         zeros = s .zeros;
@@ -114,7 +114,7 @@ module _ (z : Size) (b : Board) (order : List ℕ) (queues : ℕ → List ℕ) (
               (λ y i. ap (λ (x : Message). number (x .prio)) (same-queued k h y i)) (λ y. ((λ q. q), λ q. q))
               (s .linked .messages k h);
         };
-        kept = λ j h. kept-each j h (ℕ-discrete j m);
+        places = λ j h. good-each j h (ℕ-discrete j m);
         flags = s .flags;
       }
 
@@ -130,10 +130,10 @@ pub lowest-free : (b : Board) → lowestFree b ≢ 0 → Numbered (length (b .pl
 lowest-free b h = let r = which-first Free isFree (b .places) h in (r .0, free-says (place b (lowestFree b)) (r .1))
 
 -- R4 lets a present task hold a message that was free
-free-held : (z : Size) (b : Board) (m c : ℕ) → present b c ≡ true → message b m ≡ noMessage → Kept z b m (HeldBy (taskNo c))
+free-held : (z : Size) (b : Board) (m c : ℕ) → present b c ≡ true → message b m ≡ noMessage → PlaceGood z b m (HeldBy (taskNo c))
 free-held z b m c p e = rw e (record { receiver = omega arith; sender = omega arith }, refl, p)
 
-module _ (z : Size) (b : Board) (order : List ℕ) (queues : ℕ → List ℕ) (a : Sizes z) (s : Stands z b order queues) where
+module _ (z : Size) (b : Board) (order : List ℕ) (queues : ℕ → List ℕ) (a : Sizes z) (s : Settled z b order queues) where
   -- a place byte can say who holds a message
   pub held-fits : (c : ℕ) → present b c ≡ true → FitsPlace z (HeldBy (taskNo c))
   held-fits c p =
@@ -142,28 +142,28 @@ module _ (z : Size) (b : Board) (order : List ℕ) (queues : ℕ → List ℕ) (
       (omega arith, place-held z c (n .0) (n .1))
 
   -- a present task claims a message where one is free
-  pub stands-claim : (c : ℕ) → present b c ≡ true → lowestFree b ≢ 0 → Stands z (claim b c) order queues
-  stands-claim c p h =
+  pub settled-claim : (c : ℕ) → present b c ≡ true → lowestFree b ≢ 0 → Settled z (claim b c) order queues
+  settled-claim c p h =
       let m : ℕ = lowestFree b in
       let r = lowest-free b h in
-      let k : Kept z b m Free = subst (Kept z b m) (r .1) (s .kept m (rw (s .fits .places) at (r .0))) in
-      stands-place z b order queues s m (HeldBy (taskNo c)) (ap isQueued (r .1)) refl (held-fits c p) (free-held z b m c p k)
+      let k : PlaceGood z b m Free = subst (PlaceGood z b m) (r .1) (s .places m (rw (s .fits .places) at (r .0))) in
+      settled-place z b order queues s m (HeldBy (taskNo c)) (ap isQueued (r .1)) refl (held-fits c p) (free-held z b m c p k)
 
   -- so its row has it
-  pub claim-stands : let c = running z b in lowest (own z b c Claim) ≡ Go → Stands z (claim b c) order queues
-  claim-stands g =
+  pub claim-settled : let c = running z b in lowest (ownRow z b c Claim) ≡ Go → Settled z (claim b c) order queues
+  claim-settled g =
       let c : ℕ = running z b in
       let r = go-passed (no3 c) (no11 b ∷ []) g in
       let f = go-passed (no11 b) [] (r .1) in
-      stands-claim c (runner-says z b (runner-passed c (r .0)) .0) (eqb-false (lowestFree b) 0 (f .0))
+      settled-claim c (runner-says z b (runner-passed c (r .0)) .0) (eqb-false (lowestFree b) 0 (f .0))
 
 -- ---- release and prepare
-module _ (z : Size) (b : Board) (order : List ℕ) (queues : ℕ → List ℕ) (s : Stands z b order queues) where
+module _ (z : Size) (b : Board) (order : List ℕ) (queues : ℕ → List ℕ) (s : Settled z b order queues) where
   -- a held message is released
-  pub stands-release : (c m : ℕ) → place b m ≡ HeldBy (taskNo c) → Stands z (release b m) order queues
-  stands-release c m e =
+  pub settled-release : (c m : ℕ) → place b m ≡ HeldBy (taskNo c) → Settled z (release b m) order queues
+  settled-release c m e =
       let d : Board = withMessage b m noMessage in
-      let t = stands-record z b order queues s m c e noMessage (record {
+      let t = settled-record z b order queues s m c e noMessage (record {
         stat = lit< tt;
         prio = lit< tt;
         link = lit< tt;
@@ -171,28 +171,28 @@ module _ (z : Size) (b : Board) (order : List ℕ) (queues : ℕ → List ℕ) (
         sptr = lit< tt;
       }) (record { receiver = omega arith; sender = omega arith }) refl in
       let n = held-numbered z b order queues s m c e in
-      stands-place z d order queues t m Free (ap isQueued e) refl (lit< tt, refl)
+      settled-place z d order queues t m Free (ap isQueued e) refl (lit< tt, refl)
       (message-put b m noMessage (rw (← s .fits .messages) at n))
 
   -- so its row has it
-  pub release-stands : (c m : ℕ) → lowest (own z b c (Release m)) ≡ Go → Stands z (release b m) order queues
-  release-stands c m g = stands-release c m (held-row z b c m [] g .1)
+  pub release-settled : (c m : ℕ) → lowest (ownRow z b c (Release m)) ≡ Go → Settled z (release b m) order queues
+  release-settled c m g = settled-release c m (held-row z b c m [] g .1)
 
   -- a held message is prepared
-  pub stands-prepare : (c m t p sptr : ℕ) → place b m ≡ HeldBy (taskNo c) → Byte t → Byte p → Word sptr → sptr ≤ z .tasks
-      → Stands z (prepare b m t p sptr) order queues
-  stands-prepare c m t p sptr e ht hp hs h =
-      let k = held-kept z b order queues s m c e in
+  pub settled-prepare : (c m t p sptr : ℕ) → place b m ≡ HeldBy (taskNo c) → Byte t → Byte p → Word sptr → sptr ≤ z .tasks
+      → Settled z (prepare b m t p sptr) order queues
+  settled-prepare c m t p sptr e ht hp hs h =
+      let k = held-good z b order queues s m c e in
       let f = s .fits .message m in
-      stands-record z b order queues s m c e
+      settled-record z b order queues s m c e
       (record { stat = t; prio = p; link = message b m .link; rptr = message b m .rptr; sptr = sptr })
       (record { stat = ht; prio = hp; link = f .link; rptr = f .rptr; sptr = hs })
       (record { receiver = k .0 .receiver; sender = h }) (k .1)
 
   -- so its row has it
-  pub prepare-stands : (c m t p sptr : ℕ) → Fitting (Prepare m t p sptr) → lowest (own z b c (Prepare m t p sptr)) ≡ Go
-      → Stands z (prepare b m t p sptr) order queues
-  prepare-stands c m t p sptr f g =
+  pub prepare-settled : (c m t p sptr : ℕ) → Fitting (Prepare m t p sptr) → lowest (ownRow z b c (Prepare m t p sptr)) ≡ Go
+      → Settled z (prepare b m t p sptr) order queues
+  prepare-settled c m t p sptr f g =
       let r = held-row z b c m (no14 z sptr ∷ []) g in
       let n = go-passed (no14 z sptr) [] (r .2) in
-      stands-prepare c m t p sptr (r .1) (f .1) (f .2) (f .3) (ltb-false (z .tasks) sptr (n .0))
+      settled-prepare c m t p sptr (r .1) (f .1) (f .2) (f .3) (ltb-false (z .tasks) sptr (n .0))

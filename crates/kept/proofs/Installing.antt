@@ -1,4 +1,4 @@
--- One task record written and the task queue relinked: what then is read, and when the board stands. Install.
+-- One task record written and the task queue relinked: what then is read, and when the board is settled. Install.
 -- Assumes nothing.
 use mathlib.Core.Path.{_≡_, refl, sym, ap, _∙_, subst}
 use mathlib.Core.Logic.{_≢_, inl, inr, _↔_}
@@ -32,16 +32,16 @@ use Rattle.paper.specs.declared.call.Call.the-variants.{Install}
 use Rattle.paper.specs.Rules.{isThere, present, nextTask, nextMessage, order, taskNumber, messageNumber, goodHead}
 use Rattle.paper.specs.Changes.{linkTask, withOrder}
 use Rattle.paper.specs.Effects.{install}
-use Rattle.paper.specs.Refusals.{no7Install, no8, no9, own, Go, lowest}
+use Rattle.paper.specs.Refusals.{no7Install, no8, no9, ownRow, Go, lowest}
 use Rattle.linked.specs.Linked.{Listing, Numbered}
-use Rattle.linked.specs.Sound.{Proper, Kept}
+use Rattle.linked.specs.Sound.{Proper, PlaceGood}
 use Rattle.linked.proofs.Tests.{says-goodHead}
-use Rattle.kept.specs.Stands.{Word, FitsTask, Fits, Stands, Fitting}
+use Rattle.kept.specs.Settled.{Word, FitsTask, Fits, Settled, Fitting}
 use Rattle.kept.specs.After.{orderAfter}
 use Rattle.kept.specs.Claims.{Sizes}
 use Rattle.kept.proofs.Reading.{nth-cases, task-put, task-other, task-alike, present-numbered, fits-first, fits-task}
 use Rattle.kept.proofs.Reading.{relink-keeps, first-holds, relink-holds, sorted-stays, listing-stays, listing-start}
-use Rattle.kept.proofs.Reading.{Lawful, absent-none, kept-stays, order-walked, go-passed, neither}
+use Rattle.kept.proofs.Reading.{Lawful, absent-none, good-stays, order-walked, go-passed, neither}
 use Rattle.kept.proofs.Flagging.{Flagged, flags-ready}
 
 -- ---- the task queue relinked
@@ -92,10 +92,10 @@ module _ (b : Board) (q : List ℕ) where
 
 -- ---- one task written and the task queue relinked
 -- t is the record written at k, q lists the tasks that are then present
-module _ (z : Size) (b : Board) (order : List ℕ) (queues : ℕ → List ℕ) (a : Sizes z) (s : Stands z b order queues)
+module _ (z : Size) (b : Board) (order : List ℕ) (queues : ℕ → List ℕ) (a : Sizes z) (s : Settled z b order queues)
     (k : ℕ) (t : Task) (q : List ℕ)
     (fits : FitsTask t) (lawful : Lawful t) (flagged : Flagged t) (mptr : t .mptr ≡ task b k .mptr)
-    (kept : (m : ℕ) → Numbered (z .messages) m → Kept z (withTask b k t) m (place b m)) (once : Once q)
+    (good : (m : ℕ) → Numbered (z .messages) m → PlaceGood z (withTask b k t) m (place b m)) (once : Once q)
     (exact : (y : ℕ) → In y q ↔ (present (withTask b k t) y ≡ true))
     (sorted : Sorted (taskNumber (withTask b k t)) q) where
   abbrev mid : Board
@@ -132,9 +132,9 @@ module _ (z : Size) (b : Board) (order : List ℕ) (queues : ℕ → List ℕ) (
   same-mptr : (j : ℕ) → task new j .mptr ≡ task b j .mptr
   same-mptr j = ap (λ (x : Task). x .mptr) (relinked mid q j) ∙ task-alike (λ (x : Task). x .mptr) b k j t mptr
 
-  -- the board stands, and lists the tasks so
-  pub stands-order : Stands z (withOrder (withTask b k t) q) q queues
-  stands-order = record {
+  -- the board is settled, and lists the tasks so
+  pub settled-order : Settled z (withOrder (withTask b k t) q) q queues
+  settled-order = record {
     fits = fits-relinked;
     byte1 = relink-keeps (λ (e : Board). e .byte1) linkTask (λ e x y. refl) mid q ∙ s .byte1;
     zeros = subst (All (λ x. x ≡ 0)) (sym (relink-keeps (λ (e : Board). e .zeros) linkTask (λ e x y. refl) mid q)) (s .zeros);
@@ -151,9 +151,9 @@ module _ (z : Size) (b : Board) (order : List ℕ) (queues : ℕ → List ℕ) (
           listing-start (nextMessage new) (messageNumber new) (task b j .mptr) (task new j .mptr) (queues j) _ (same-mptr j)
           (same-queue mid q (task b j .mptr) j (queues j) (s .linked .messages j n));
     };
-    kept = λ m n.
-        subst (Kept z new m) (sym (same-place mid q m))
-        (kept-stays z mid new m (place b m) (same-message mid q m) (λ j w p. same-present j ∙ p) (kept m n));
+    places = λ m n.
+        subst (PlaceGood z new m) (sym (same-place mid q m))
+        (good-stays z mid new m (place b m) (same-message mid q m) (λ j w p. same-present j ∙ p) (good m n));
     flags = λ j n.
         subst Flagged (sym (relinked mid q j)) (nth-cases Flagged noTask (b .tasks) k j t (λ e. flagged) (s .flags j n));
   }
@@ -171,7 +171,7 @@ status-says stat e =
     let waits = neither (not (has s TCBB)) (has s WAIT) (parked .0) in
     (not-false (has s TCBB) (waits .0), waits .1, parked .1, fifth .1, due .1)
 
-module _ (z : Size) (b : Board) (q : List ℕ) (queues : ℕ → List ℕ) (a : Sizes z) (s : Stands z b q queues)
+module _ (z : Size) (b : Board) (q : List ℕ) (queues : ℕ → List ℕ) (a : Sizes z) (s : Settled z b q queues)
     (k stat p sptr name : ℕ) where
   abbrev installed : Task
   installed = record { stat = stored stat; prio = p; link = 0; mptr = 0; sptr = sptr; name = name }
@@ -215,32 +215,32 @@ module _ (z : Size) (b : Board) (q : List ℕ) (queues : ℕ → List ℕ) (a : 
         (sorted-insert (taskNumber now) true (number p) k q (ap (λ (x : Task). number (x .prio)) reads-back)
         (sorted-stays (taskNumber b) (taskNumber now) q numbers (s .linked .tasks .sorted)))
 
-    kept-old : (m : ℕ) → Numbered (z .messages) m → Kept z now m (place b m)
-    kept-old m h =
-        kept-stays z b now m (place b m) refl (λ j w e. in-present j (inr (s .linked .tasks .exact j .1 e))) (s .kept m h)
+    good-old : (m : ℕ) → Numbered (z .messages) m → PlaceGood z now m (place b m)
+    good-old m h =
+        good-stays z b now m (place b m) refl (λ j w e. in-present j (inr (s .linked .tasks .exact j .1 e))) (s .places m h)
 
     -- an absent task gets a proper record that waits for nothing and is due no message
-    pub stands-install : has (stored stat) WAIT ≡ false → has (stored stat) IWAT ≡ false → has (stored stat) MHBS ≡ false
-        → Stands z (install z b k stat p sptr name) (insert goes k q) queues
-    stands-install w i m =
-        subst (λ (l : List ℕ). Stands z (withOrder now (insert goes k l)) (insert goes k q) queues)
+    pub settled-install : has (stored stat) WAIT ≡ false → has (stored stat) IWAT ≡ false → has (stored stat) MHBS ≡ false
+        → Settled z (install z b k stat p sptr name) (insert goes k q) queues
+    settled-install w i m =
+        subst (λ (l : List ℕ). Settled z (withOrder now (insert goes k l)) (insert goes k q) queues)
         (sym (order-walked z b q queues s (a .limit)))
-        (stands-order z b q queues a s k installed (insert goes k q) fits (inr proper)
+        (settled-order z b q queues a s k installed (insert goes k q) fits (inr proper)
         (flags-ready (stored stat) (0 ≡ 0) w i (λ e. absurd (true≢false (sym e ∙ m))))
-        (ap (λ (x : Task). x .mptr) (sym (absent-none (task b k) (s .records k n) absent))) kept-old
+        (ap (λ (x : Task). x .mptr) (sym (absent-none (task b k) (s .records k n) absent))) good-old
         (once-insert goes k q (not-in-out k q (λ j. fresh k j refl))
         (chain-once (nextTask b) (b .first) q (s .linked .tasks .chain)))
         listed-exact listed-sorted)
 
   -- so its row has it
-  pub install-stands : (c : ℕ) → Fitting (Install k stat p sptr name) → lowest (own z b c (Install k stat p sptr name)) ≡ Go
-      → Stands z (install z b k stat p sptr name) (orderAfter b q (Install k stat p sptr name)) queues
-  install-stands c f g =
+  pub install-settled : (c : ℕ) → Fitting (Install k stat p sptr name) → lowest (ownRow z b c (Install k stat p sptr name)) ≡ Go
+      → Settled z (install z b k stat p sptr name) (orderAfter b q (Install k stat p sptr name)) queues
+  install-settled c f g =
       let prio = go-passed (no7Install p) (no8 z b k ∷ no9 stat ∷ []) g in
       let room = go-passed (no8 z b k) (no9 stat ∷ []) (prio .1) in
       let n = neither (outside (z .tasks) k) (present b k) (room .0) in
       let t = status-says stat (go-passed (no9 stat) [] (room .1) .0) in
       let good : goodHead (stored stat) p ≡ true = and-true _ _ (and-true _ _ (t .0) (ap not (t .3))) (not-false _ (prio .0)) in
-      stands-install (outside-within (z .tasks) k (n .0)) (n .1)
+      settled-install (outside-within (z .tasks) k (n .0)) (n .1)
       (record { stat = f .1; prio = f .2; link = lit< tt; mptr = lit< tt; sptr = f .3; name = f .4 })
       (says-goodHead installed .0 good) (t .1) (t .2) (t .4)

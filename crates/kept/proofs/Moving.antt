@@ -27,14 +27,14 @@ use Rattle.board.specs.Places.{placeByte}
 use Rattle.board.specs.Board.{Board, task, message, place, withMessage, withPlace}
 use Rattle.paper.specs.Rules.{present, isThere, nextTask, nextMessage, taskNumber, messageNumber}
 use Rattle.linked.specs.Linked.{Numbered, Listing}
-use Rattle.linked.specs.Sound.{Pointers, Kept, Flags}
-use Rattle.kept.specs.Stands.{Word, FitsMessage, Fits, Stands}
+use Rattle.linked.specs.Sound.{Pointers, PlaceGood, Flags}
+use Rattle.kept.specs.Settled.{Word, FitsMessage, Fits, Settled}
 use Rattle.kept.specs.After.{changed}
 use Rattle.kept.specs.Claims.{Sizes}
 use Rattle.kept.proofs.Reading.{FitsPlace, Lawful, nth-cases, task-put, task-other, task-alike, message-put, place-put, place-other}
 use Rattle.kept.proofs.Reading.{present-numbered, placed-numbered, queued-placed, fits-message, fits-place}
-use Rattle.kept.proofs.Reading.{listing-stays, sorted-stays, present-proper, kept-stays}
-use Rattle.kept.proofs.Flagging.{Flagged, StandsBut}
+use Rattle.kept.proofs.Reading.{listing-stays, sorted-stays, present-proper, good-stays}
+use Rattle.kept.proofs.Flagging.{Flagged, SettledBut}
 use Rattle.kept.proofs.Waiting.{task-numbered, Pending}
 use Rattle.kept.proofs.Relinked.{requeued, requeued-out, requeued-alike, requeued-chain, requeued-fits}
 
@@ -44,7 +44,7 @@ abbrev pub moved : Board → ℕ → List ℕ → ℕ → Message → Place → 
 moved b r q m w p = withPlace (withMessage (requeued b r q) m w) m p
 
 -- what is asked of it
-pub record Move (z : Size) (b : Board) (r : ℕ) (q : List ℕ) (m : ℕ) (w : Message) (p : Place) : Type 0 where
+pub record Moved (z : Size) (b : Board) (r : ℕ) (q : List ℕ) (m : ℕ) (w : Message) (p : Place) : Type 0 where
   pub there : present b r ≡ true
   pub once : Once q
   pub sorted : Sorted (messageNumber b) q
@@ -57,7 +57,7 @@ pub record Move (z : Size) (b : Board) (r : ℕ) (q : List ℕ) (m : ℕ) (w : M
   pub priority : number (w .prio) ≡ messageNumber b m
   pub fits : FitsMessage (message (requeued b r q) m) → FitsMessage w
   pub byte : FitsPlace z p
-  pub kept : Pointers z (message (requeued b r q) m) → Kept z (withMessage b m w) m p
+  pub good : Pointers z (message (requeued b r q) m) → PlaceGood z (withMessage b m w) m p
 
 -- pointers say nothing of a link
 pointers-alike : (z : Size) (r t : Message) → withLink t 0 ≡ withLink r 0 → Pointers z r → Pointers z t
@@ -67,9 +67,9 @@ pointers-alike z r t e p = record {
 }
 
 -- nor does R4 of a queued message
-kept-queued : (z : Size) (b b′ : Board) (y : ℕ) (t : TaskNo) → withLink (message b′ y) 0 ≡ withLink (message b y) 0
-    → ((k : ℕ) → present b′ k ≡ present b k) → Kept z b y (QueuedAt t) → Kept z b′ y (QueuedAt t)
-kept-queued z b b′ y t e h (p, f, l, g) = (
+good-queued : (z : Size) (b b′ : Board) (y : ℕ) (t : TaskNo) → withLink (message b′ y) 0 ≡ withLink (message b y) 0
+    → ((k : ℕ) → present b′ k ≡ present b k) → PlaceGood z b y (QueuedAt t) → PlaceGood z b′ y (QueuedAt t)
+good-queued z b b′ y t e h (p, f, l, g) = (
   pointers-alike z (message b y) (message b′ y) e p,
   ap (λ (r : Message). fifo (r .prio)) e ∙ f,
   subst (λ (r : Message). r .prio < 0xFF) (sym e) l,
@@ -77,8 +77,8 @@ kept-queued z b b′ y t e h (p, f, l, g) = (
 )
 
 -- ---- the board after a move
-module _ (z : Size) (b : Board) (order : List ℕ) (queues : ℕ → List ℕ) (sizes : Sizes z) (stands : Stands z b order queues)
-    (r : ℕ) (q : List ℕ) (m : ℕ) (w : Message) (p : Place) (h : Move z b r q m w p) where
+module _ (z : Size) (b : Board) (order : List ℕ) (queues : ℕ → List ℕ) (sizes : Sizes z) (settled : Settled z b order queues)
+    (r : ℕ) (q : List ℕ) (m : ℕ) (w : Message) (p : Place) (h : Moved z b r q m w p) where
   abbrev after : Board
   after = moved b r q m w p
 
@@ -86,19 +86,19 @@ module _ (z : Size) (b : Board) (order : List ℕ) (queues : ℕ → List ℕ) (
   receiver = taskWithMptr (task b r) (firstOf q)
 
   receiver-numbered : Numbered (z .tasks) r
-  receiver-numbered = task-numbered z b order queues stands r (h .there)
+  receiver-numbered = task-numbered z b order queues settled r (h .there)
 
   member-numbered : (y : ℕ) → In y q → Numbered (z .messages) y
   member-numbered y i = step (ℕ-discrete y m)
     where
       step : Dec (y ≡ m) → Numbered (z .messages) y
       step (yes e) = rw e (h .numbered)
-      step (no d) = rw (stands .fits .places) at (placed-numbered b y (queued-placed b y r (h .others y d .0 i)))
+      step (no d) = rw (settled .fits .places) at (placed-numbered b y (queued-placed b y r (h .others y d .0 i)))
 
   -- ---- the fields fit
   fits-before : Fits z (requeued b r q)
   fits-before =
-      requeued-fits z b r q (stands .fits) (all-of Word q (λ y i. omega (arith, member-numbered y i .1, sizes .links)))
+      requeued-fits z b r q (settled .fits) (all-of Word q (λ y i. omega (arith, member-numbered y i .1, sizes .links)))
 
   fits-after : Fits z after
   fits-after =
@@ -116,7 +116,7 @@ module _ (z : Size) (b : Board) (order : List ℕ) (queues : ℕ → List ℕ) (
   place-after P y f g = step (ℕ-discrete y m)
     where
       step : Dec (y ≡ m) → P (place after y)
-      step (yes e) = rw (e, place-put b m p (rw (stands .fits .places) (h .numbered))) (f e)
+      step (yes e) = rw (e, place-put b m p (rw (settled .fits .places) (h .numbered))) (f e)
       step (no d) = rw (place-other b m y p d) (g d)
 
   number-after : (y : ℕ) → messageNumber after y ≡ messageNumber b y
@@ -127,7 +127,7 @@ module _ (z : Size) (b : Board) (order : List ℕ) (queues : ℕ → List ℕ) (
   -- ---- R2
   lawful : Lawful receiver
   lawful =
-      let t = present-proper (task b r) (stands .records r receiver-numbered) (h .there) in
+      let t = present-proper (task b r) (settled .records r receiver-numbered) (h .there) in
       inr (record { there = t .there; bit5 = t .bit5; odd = t .odd; low = t .low; high = t .high })
 
   -- ---- R3
@@ -136,33 +136,33 @@ module _ (z : Size) (b : Board) (order : List ℕ) (queues : ℕ → List ℕ) (
       listing-stays (nextTask b) (nextTask after) (taskNumber b) (taskNumber after) (b .first) order _ _
       (λ k i. task-alike (λ (t : Task). t .link) b r k receiver refl)
       (λ k i. task-alike (λ (t : Task). number (t .prio)) b r k receiver refl)
-      (λ k. ((λ e. present-after k ∙ e), λ e. sym (present-after k) ∙ e)) (stands .linked .tasks)
+      (λ k. ((λ e. present-after k ∙ e), λ e. sym (present-after k) ∙ e)) (settled .linked .tasks)
 
   -- ---- R4
   written : message after m ≡ message (withMessage b m w) m
   written =
       message-put (requeued b r q) m w (rw (fits-before .messages) (h .numbered))
-      ∙ sym (message-put b m w (rw (stands .fits .messages) (h .numbered)))
+      ∙ sym (message-put b m w (rw (settled .fits .messages) (h .numbered)))
 
-  kept-it : Kept z after m p
-  kept-it =
-      kept-stays z (withMessage b m w) after m p written (λ k e t. present-after k ∙ t)
-      (h .kept (pointers-alike z (message b m) (message (requeued b r q) m) (requeued-alike b r q m) (h .pointers)))
+  good-it : PlaceGood z after m p
+  good-it =
+      good-stays z (withMessage b m w) after m p written (λ k e t. present-after k ∙ t)
+      (h .good (pointers-alike z (message b m) (message (requeued b r q) m) (requeued-alike b r q m) (h .pointers)))
 
-  kept-other : (y : ℕ) → Numbered (z .messages) y → y ≢ m → In y q ⊎ Out y q → Kept z after y (place b y)
-  kept-other y n d (inl i) =
+  good-other : (y : ℕ) → Numbered (z .messages) y → y ≢ m → In y q ⊎ Out y q → PlaceGood z after y (place b y)
+  good-other y n d (inl i) =
       let e = h .others y d .0 i in
       let v : withLink (message after y) 0 ≡ withLink (message b y) 0 =
       message-after (λ v. withLink v 0 ≡ withLink (message b y) 0) y (λ g. absurd (d g)) (requeued-alike b r q y) in
-      subst (Kept z after y) (sym e)
-      (kept-queued z b after y (taskNo r) v present-after (subst (Kept z b y) e (stands .kept y n)))
-  kept-other y n d (inr o) =
-      kept-stays z b after y (place b y)
+      subst (PlaceGood z after y) (sym e)
+      (good-queued z b after y (taskNo r) v present-after (subst (PlaceGood z b y) e (settled .places y n)))
+  good-other y n d (inr o) =
+      good-stays z b after y (place b y)
       (message-after (λ v. v ≡ message b y) y (λ g. absurd (d g)) (requeued-out b r q y o))
-      (λ k e t. present-after k ∙ t) (stands .kept y n)
+      (λ k e t. present-after k ∙ t) (settled .places y n)
 
-  kept-after : (y : ℕ) → Numbered (z .messages) y → Kept z after y (place after y)
-  kept-after y n = place-after (Kept z after y) y (λ e. rw e kept-it) (λ d. kept-other y n d (in-dec y q))
+  good-after : (y : ℕ) → Numbered (z .messages) y → PlaceGood z after y (place after y)
+  good-after y n = place-after (PlaceGood z after y) y (λ e. rw e good-it) (λ d. good-other y n d (in-dec y q))
 
   -- ---- R5
   -- the queue of r
@@ -171,7 +171,7 @@ module _ (z : Size) (b : Board) (order : List ℕ) (queues : ℕ → List ℕ) (
       chain-frame (nextMessage (requeued b r q)) (nextMessage after) (firstOf q) q
       (λ y i. message-after (λ v. v .link ≡ nextMessage (requeued b r q) y) y (λ e. rw e (h .link (rw e at i))) refl)
       (requeued-chain b r q (h .once) (not-in-out 0 q (λ i. omega (arith, member-numbered 0 i .0)))
-      (all-of _ q (λ y i. rw (stands .fits .messages) (member-numbered y i))))
+      (all-of _ q (λ y i. rw (settled .fits .messages) (member-numbered y i))))
 
   queue-after : Listing (nextMessage after) (messageNumber after) (firstOf q) q (λ y. place after y ≡ QueuedAt (taskNo r))
   queue-after = record {
@@ -205,7 +205,7 @@ module _ (z : Size) (b : Board) (order : List ℕ) (queues : ℕ → List ℕ) (
     other-after : Numbered (z .tasks) k
         → Listing (nextMessage after) (messageNumber after) (task b k .mptr) (queues k) (λ y. place after y ≡ QueuedAt (taskNo k))
     other-after n =
-        let l = stands .linked .messages k n in
+        let l = settled .linked .messages k n in
         listing-stays (nextMessage b) (nextMessage after) (messageNumber b) (messageNumber after) (task b k .mptr) (queues k) _ _
         (λ y i. link-stays y (l .exact y .0 i)) (λ y i. number-after y) place-stays l
 
@@ -215,22 +215,22 @@ module _ (z : Size) (b : Board) (order : List ℕ) (queues : ℕ → List ℕ) (
   messages-after k n (no d) = rw (ne-eqb k r d, task-other b r k receiver d) (other-after k d n)
 
   -- ---- all of them but R6 at r
-  but-after : StandsBut z after order (changed queues r q) r
+  but-after : SettledBut z after order (changed queues r q) r
   but-after = record {
     fits = fits-after;
-    byte1 = stands .byte1;
-    zeros = stands .zeros;
-    records = λ k n. nth-cases Lawful noTask (b .tasks) r k receiver (λ e. lawful) (stands .records k n);
+    byte1 = settled .byte1;
+    zeros = settled .zeros;
+    records = λ k n. nth-cases Lawful noTask (b .tasks) r k receiver (λ e. lawful) (settled .records k n);
     linked = record { tasks = tasks-after; messages = λ k n. messages-after k n (ℕ-discrete k r) };
-    kept = kept-after;
-    flags = λ k n d. subst Flagged (sym (task-other b r k receiver d)) (stands .flags k n);
+    places = good-after;
+    flags = λ k n d. subst Flagged (sym (task-other b r k receiver d)) (settled .flags k n);
   }
 
   -- a move leaves the flags of r to be settled
-  pub moved-stands : Pending z (moved b r q m w p) order (changed queues r q) r (task b r .mptr ≡ 0)
-  moved-stands = record {
+  pub moved-settled : Pending z (moved b r q m w p) order (changed queues r q) r (task b r .mptr ≡ 0)
+  moved-settled = record {
     but = but-after;
     there = present-after r ∙ h .there;
     flags = subst (λ (s : Status). Flags s (task b r .mptr ≡ 0)) (sym (task-alike (λ (t : Task). t .stat) b r r receiver refl))
-        (stands .flags r receiver-numbered);
+        (settled .flags r receiver-numbered);
   }

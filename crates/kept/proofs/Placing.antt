@@ -1,4 +1,4 @@
--- Place m at r: a held message goes into a queue, and the board stands. Send, resend, forward, return, and their wait forms.
+-- Place m at r: a held message goes into a queue, and the board is settled. Send, resend, forward, return, and their wait forms.
 -- Assumes nothing.
 use mathlib.Core.Path.{_≡_, refl, sym, ap, _∙_, subst}
 use mathlib.Core.Logic.{_≢_, inl, inr, ⊎-elim}
@@ -29,24 +29,24 @@ use Rattle.paper.specs.declared.call.Call.the-variants.{Send, Resend, Forward, 
 use Rattle.paper.specs.Rules.{present, nextMessage, messageNumber, running}
 use Rattle.paper.specs.Changes.{withQueue}
 use Rattle.paper.specs.Effects.{woken, placeAt, ownPrio, addressed, send, resend, forward, giveBack, waits}
-use Rattle.paper.specs.Refusals.{Test, no3, no4, no5, no6, no7, own, Go, lowest}
+use Rattle.paper.specs.Refusals.{Test, no3, no4, no5, no6, no7, ownRow, Go, lowest}
 use Rattle.linked.specs.Linked.{Numbered}
-use Rattle.kept.specs.Stands.{Byte, Word, Stands}
+use Rattle.kept.specs.Settled.{Byte, Word, Settled}
 use Rattle.kept.specs.After.{changed, placed, sent, queuesAfter}
 use Rattle.kept.specs.Claims.{Sizes}
 use Rattle.kept.proofs.Reading.{cond-holds, task-alike, message-put, message-other, place-put, present-proper}
 use Rattle.kept.proofs.Reading.{queue-walked, runner-says, go-passed, runner-passed, held-passed, task-passed}
-use Rattle.kept.proofs.Holding.{isQueued, unqueued-out, held-numbered, held-kept, stands-record}
+use Rattle.kept.proofs.Holding.{isQueued, unqueued-out, held-numbered, held-good, settled-record}
 use Rattle.kept.proofs.Relinked.{requeued, requeued-is}
-use Rattle.kept.proofs.Moving.{moved, Move, moved-stands}
-use Rattle.kept.proofs.Waiting.{Idle, waits-stands, task-numbered, queued-starts, woken-stat, woken-stands}
+use Rattle.kept.proofs.Moving.{moved, Moved, moved-settled}
+use Rattle.kept.proofs.Waiting.{Idle, waits-settled, task-numbered, queued-starts, woken-stat, woken-settled}
 
 -- the board a after a call and after its wait form, made by k on the board b
 abbrev pub WithWait : Size → Board → List ℕ → ℕ → Board → (ℕ → List ℕ) → Type 0
-WithWait z b order k a queues = Stands z a order queues × (has (task b k .stat) MHBS ≡ false → Stands z (waits k a) order queues)
+WithWait z b order k a queues = Settled z a order queues × (has (task b k .stat) MHBS ≡ false → Settled z (waits k a) order queues)
 
 -- ---- a placement
-module _ (z : Size) (b : Board) (order : List ℕ) (queues : ℕ → List ℕ) (sizes : Sizes z) (stands : Stands z b order queues)
+module _ (z : Size) (b : Board) (order : List ℕ) (queues : ℕ → List ℕ) (sizes : Sizes z) (settled : Settled z b order queues)
     (m r c : ℕ) (held : place b m ≡ HeldBy (taskNo c)) (there : present b r ≡ true) (low : number (message b m .prio) ≢ 127) where
   abbrev p : ℕ
   p = message b m .prio
@@ -64,25 +64,25 @@ module _ (z : Size) (b : Board) (order : List ℕ) (queues : ℕ → List ℕ) (
   after = moved b r q m w (QueuedAt (taskNo r))
 
   receiver : Numbered (z .tasks) r
-  receiver = task-numbered z b order queues stands r there
+  receiver = task-numbered z b order queues settled r there
 
   -- the board is a move
   place-board : placeAt z b m r ≡ woken after r
   place-board =
       ap (λ (l : List ℕ). let s = withPlace (withQueue b r (insert goes m l)) m (QueuedAt (taskNo r)) in
-      woken (withMessage s m (withPrio (message s m) (withFifo p))) r) (queue-walked z b order queues stands r receiver)
+      woken (withMessage s m (withPrio (message s m) (withFifo p))) r) (queue-walked z b order queues settled r receiver)
       ∙ ap (λ (s : Board). woken (withMessage (withPlace s m (QueuedAt (taskNo r))) m (withPrio (message s m) (withFifo p))) r)
       (requeued-is b r q)
 
   out : Out m (queues r)
-  out = not-in-out m (queues r) (λ i. unqueued-out z b order queues stands m (ap isQueued held) r receiver m i refl)
+  out = not-in-out m (queues r) (λ i. unqueued-out z b order queues settled m (ap isQueued held) r receiver m i refl)
 
-  place-move : Move z b r q m w (QueuedAt (taskNo r))
+  place-move : Moved z b r q m w (QueuedAt (taskNo r))
   place-move =
-      let l = stands .linked .messages r receiver in
-      let n : Numbered (z .messages) m = held-numbered z b order queues stands m c held in
-      let k = held-kept z b order queues stands m c held in
-      let f = stands .fits .message m .prio in record {
+      let l = settled .linked .messages r receiver in
+      let n : Numbered (z .messages) m = held-numbered z b order queues settled m c held in
+      let k = held-good z b order queues settled m c held in
+      let f = settled .fits .message m .prio in record {
         there = there;
         once = once-insert goes m (queues r) out (chain-once (nextMessage b) (task b r .mptr) (queues r) (l .chain));
         sorted = sorted-insert (messageNumber b) (fifo p) (number p) m (queues r) refl (l .sorted);
@@ -98,16 +98,16 @@ module _ (z : Size) (b : Board) (order : List ℕ) (queues : ℕ → List ℕ) (
         priority = number-withFifo p;
         fits = λ t. record { stat = t .stat; prio = withFifo-small p f; link = t .link; rptr = t .rptr; sptr = t .sptr };
         byte = (omega (arith, receiver .1, sizes .tasks), place-queued z r (receiver .0) (receiver .1) (sizes .tasks));
-        kept = λ g. rw (message-put b m w (rw (← stands .fits .messages) at n))
+        good = λ g. rw (message-put b m w (rw (← settled .fits .messages) at n))
             (record { receiver = g .receiver; sender = g .sender }, fifo-withFifo p, omega arith, there);
       }
 
   -- a held message goes into the queue of a present task, where its priority puts it
-  pub place-stands : Stands z (placeAt z b m r) order (placed b queues m (message b m .prio) r)
-  place-stands =
-      let d = moved-stands z b order queues sizes stands r q m w (QueuedAt (taskNo r)) place-move in
-      let n = rw (← stands .fits .places) at (held-numbered z b order queues stands m c held) in
-      rw place-board (woken-stands z after order (changed queues r q) r (task b r .mptr ≡ 0) d
+  pub place-settled : Settled z (placeAt z b m r) order (placed b queues m (message b m .prio) r)
+  place-settled =
+      let d = moved-settled z b order queues sizes settled r q m w (QueuedAt (taskNo r)) place-move in
+      let n = rw (← settled .fits .places) at (held-numbered z b order queues settled m c held) in
+      rw place-board (woken-settled z after order (changed queues r q) r (task b r .mptr ≡ 0) d
       (queued-starts z after order (changed queues r q) (d .but .linked) r m receiver (place-put b m (QueuedAt (taskNo r)) n)))
 
   -- one that doesn't wait keeps its status
@@ -121,13 +121,13 @@ module _ (z : Size) (b : Board) (order : List ℕ) (queues : ℕ → List ℕ) (
       → WithWait z b order k (placeAt z b m r) (placed b queues m (message b m .prio) r)
   place-waits k (h, v, i) =
       let e = place-stat k v in (
-        place-stands,
-        λ d. waits-stands z (placeAt z b m r) order _ k (ap (λ (s : Status). has s TCBB) e ∙ h) place-stands
+        place-settled,
+        λ d. waits-settled z (placeAt z b m r) order _ k (ap (λ (s : Status). has s TCBB) e ∙ h) place-settled
             (subst Idle (sym e) (v, i, d)),
       )
 
 -- ---- the message of a send
-module _ (z : Size) (b : Board) (order : List ℕ) (queues : ℕ → List ℕ) (sizes : Sizes z) (stands : Stands z b order queues)
+module _ (z : Size) (b : Board) (order : List ℕ) (queues : ℕ → List ℕ) (sizes : Sizes z) (settled : Settled z b order queues)
     (m r c : ℕ) (held : place b m ≡ HeldBy (taskNo c)) (there : present b r ≡ true) (runs : present b c ≡ true) where
   abbrev t : Message
   t = message b m
@@ -136,27 +136,27 @@ module _ (z : Size) (b : Board) (order : List ℕ) (queues : ℕ → List ℕ) (
   new = withSptr (withRptr (withPrio t (ownPrio (t .prio) (task b c .prio))) r) (cond (eqb (t .sptr) 0) c (t .sptr))
 
   numbered : (k : ℕ) → present b k ≡ true → Numbered (z .tasks) k
-  numbered k h = task-numbered z b order queues stands k h
+  numbered k h = task-numbered z b order queues settled k h
 
   addressed-reads : message (addressed b c m r) m ≡ new
-  addressed-reads = message-put b m new (rw (← stands .fits .messages) at (held-numbered z b order queues stands m c held))
+  addressed-reads = message-put b m new (rw (← settled .fits .messages) at (held-numbered z b order queues settled m c held))
 
   -- its priority number isn't 127
   addressed-low : number (message (addressed b c m r) m .prio) ≢ 127
   addressed-low =
-      let h = present-proper (task b c) (stands .records c (numbered c runs)) runs in
+      let h = present-proper (task b c) (settled .records c (numbered c runs)) runs in
       rw addressed-reads (cond-holds (λ (p : ℕ). number p ≢ 127) (eqb (number (t .prio)) 127) _ _
       (λ e d. omega (arith, h .high)) (λ e. eqb-false (number (t .prio)) 127 e))
 
   -- it stands in no queue, so all the queues stay
-  pub addressed-stands : Stands z (addressed b c m r) order queues
-  addressed-stands =
-      let f = stands .fits .message m in
-      let k = held-kept z b order queues stands m c held in
-      stands-record z b order queues stands m c held new
+  pub addressed-settled : Settled z (addressed b c m r) order queues
+  addressed-settled =
+      let f = settled .fits .message m in
+      let k = held-good z b order queues settled m c held in
+      settled-record z b order queues settled m c held new
       (record {
         stat = f .stat;
-        prio = cond-holds Byte (eqb (number (t .prio)) 127) _ _ (λ e. omega (arith, stands .fits .task c .prio)) (λ e. f .prio);
+        prio = cond-holds Byte (eqb (number (t .prio)) 127) _ _ (λ e. omega (arith, settled .fits .task c .prio)) (λ e. f .prio);
         link = f .link;
         rptr = omega (arith, numbered r there .1, sizes .tasks);
         sptr = cond-holds Word (eqb (t .sptr) 0) _ _ (λ e. omega (arith, numbered c runs .1, sizes .tasks)) (λ e. f .sptr);
@@ -175,10 +175,10 @@ module _ (z : Size) (b : Board) (order : List ℕ) (queues : ℕ → List ℕ) (
       ∙ ap (changed queues r) (insert-stays (λ x. goesBefore (fifo p) (number p) (messageNumber d x))
       (λ x. goesBefore (fifo p) (number p) (messageNumber b x)) m (queues r)
       (λ y i. ap (λ (x : Message). goesBefore (fifo p) (number p) (number (x .prio))) (message-other b m y new
-      (unqueued-out z b order queues stands m (ap isQueued held) r (numbered r there) y i))))
+      (unqueued-out z b order queues settled m (ap isQueued held) r (numbered r there) y i))))
 
 -- ---- the calls, each with its wait form
-module _ (z : Size) (b : Board) (order : List ℕ) (queues : ℕ → List ℕ) (sizes : Sizes z) (stands : Stands z b order queues) where
+module _ (z : Size) (b : Board) (order : List ℕ) (queues : ℕ → List ℕ) (sizes : Sizes z) (settled : Settled z b order queues) where
   -- refusals 3 to 6 of their rows
   pub sender-passed : (m r : ℕ) (tests : List Test) → let c = running z b in
       lowest (no3 c ∷ no4 z m ∷ no5 b c m ∷ no6 z b r ∷ tests) ≡ Go
@@ -192,31 +192,31 @@ module _ (z : Size) (b : Board) (order : List ℕ) (queues : ℕ → List ℕ) (
       (runner-passed c (s .0), held-passed b c m (u .0), task-passed z b r (v .0) .1, v .1)
 
   -- send: the message addressed, then placed
-  pub send-stands : (m r : ℕ) → let c = running z b in lowest (own z b c (Send m r)) ≡ Go
+  pub send-settled : (m r : ℕ) → let c = running z b in lowest (ownRow z b c (Send m r)) ≡ Go
       → WithWait z b order c (send z b c m r) (queuesAfter b c queues (Send m r))
-  send-stands m r g =
+  send-settled m r g =
       let c : ℕ = running z b in
       let (n, held, there, h) = sender-passed m r [] g in
       let s = runner-says z b n in
-      subst (WithWait z b order c (send z b c m r)) (addressed-queue z b order queues sizes stands m r c held there (s .0))
+      subst (WithWait z b order c (send z b c m r)) (addressed-queue z b order queues sizes settled m r c held there (s .0))
       (place-waits z (addressed b c m r) order queues sizes
-      (addressed-stands z b order queues sizes stands m r c held there (s .0)) m r c held there
-      (addressed-low z b order queues sizes stands m r c held there (s .0)) c s)
+      (addressed-settled z b order queues sizes settled m r c held there (s .0)) m r c held there
+      (addressed-low z b order queues sizes settled m r c held there (s .0)) c s)
 
   -- forward: placed as it is, for refusal 7 has passed
-  pub forward-stands : (m r : ℕ) → let c = running z b in lowest (own z b c (Forward m r)) ≡ Go
+  pub forward-settled : (m r : ℕ) → let c = running z b in lowest (ownRow z b c (Forward m r)) ≡ Go
       → WithWait z b order c (forward z b m r) (queuesAfter b c queues (Forward m r))
-  forward-stands m r g =
+  forward-settled m r g =
       let (n, held, there, h) = sender-passed m r (no7 b m ∷ []) g in
-      place-waits z b order queues sizes stands m r (running z b) held there
+      place-waits z b order queues sizes settled m r (running z b) held there
       (eqb-false (number (message b m .prio)) 127 (go-passed (no7 b m) [] h .0)) (running z b) (runner-says z b n)
 
   -- resend: at the task that RPTR names
-  pub resend-stands : (m : ℕ) → let c = running z b in lowest (own z b c (Resend m)) ≡ Go
+  pub resend-settled : (m : ℕ) → let c = running z b in lowest (ownRow z b c (Resend m)) ≡ Go
       → WithWait z b order c (resend z b m) (queuesAfter b c queues (Resend m))
-  resend-stands m g = forward-stands m (message b m .rptr) g
+  resend-settled m g = forward-settled m (message b m .rptr) g
 
   -- return: at the task that SPTR names
-  pub return-stands : (m : ℕ) → let c = running z b in lowest (own z b c (Return m)) ≡ Go
+  pub return-settled : (m : ℕ) → let c = running z b in lowest (ownRow z b c (Return m)) ≡ Go
       → WithWait z b order c (giveBack z b m) (queuesAfter b c queues (Return m))
-  return-stands m g = forward-stands m (message b m .sptr) g
+  return-settled m g = forward-settled m (message b m .sptr) g

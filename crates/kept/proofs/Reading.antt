@@ -31,10 +31,10 @@ use Rattle.board.proofs.Pieces.{outside-within}
 use Rattle.paper.specs.Rules.{isThere, present, order, queue, ready, running}
 use Rattle.paper.specs.Refusals.{Test, no3, no4, no5, no6, Verdict, Go, Stop, lowest}
 use Rattle.linked.specs.Linked.{Listing, Numbered}
-use Rattle.linked.specs.Sound.{Proper, Kept}
+use Rattle.linked.specs.Sound.{Proper, PlaceGood}
 use Rattle.linked.proofs.Tests.{says-isQueuedAt}
 use Rattle.linked.proofs.Listings.{nth-numbered, which-nth, listing-walk}
-use Rattle.kept.specs.Stands.{Byte, FitsTask, FitsMessage, Fits, Stands}
+use Rattle.kept.specs.Settled.{Byte, FitsTask, FitsMessage, Fits, Settled}
 
 -- ---- a choice
 -- what holds of both choices holds of the one taken
@@ -232,13 +232,13 @@ absent-none t (inr h) p = absurd (true≢false (sym (h .there) ∙ p))
 
 -- ---- a message that stays
 -- the same record, and its task still present
-pub kept-stays : (z : Size) (b c : Board) (m : ℕ) (p : Place) → message c m ≡ message b m
+pub good-stays : (z : Size) (b c : Board) (m : ℕ) (p : Place) → message c m ≡ message b m
     → ((k : ℕ) → (p ≡ HeldBy (taskNo k)) ⊎ (p ≡ QueuedAt (taskNo k)) → present b k ≡ true → present c k ≡ true)
-    → Kept z b m p → Kept z c m p
-kept-stays z b c m Free e h k = e ∙ k
-kept-stays z b c m (HeldBy k) e h (p, l, t) = rw e (p, l, h (k .0) (inl refl) t)
-kept-stays z b c m (QueuedAt k) e h (p, f, l, t) = rw e (p, f, l, h (k .0) (inr refl) t)
-kept-stays z b c m (Nowhere p) e h k = k
+    → PlaceGood z b m p → PlaceGood z c m p
+good-stays z b c m Free e h k = e ∙ k
+good-stays z b c m (HeldBy k) e h (p, l, t) = rw e (p, l, h (k .0) (inl refl) t)
+good-stays z b c m (QueuedAt k) e h (p, f, l, t) = rw e (p, f, l, h (k .0) (inr refl) t)
+good-stays z b c m (Nowhere p) e h k = k
 
 -- ---- the first that passes a test
 -- the first of a queue
@@ -277,7 +277,7 @@ which-none none f l d e k p = step (which f 1 l) (which-nth none f l d 0 .0) (wh
     step (x ∷ q) a i e = true≢false (sym (a (inl (sym e))) ∙ d)
 
 -- ---- what the walks visit, who runs
-module _ (z : Size) (b : Board) (q : List ℕ) (queues : ℕ → List ℕ) (s : Stands z b q queues) where
+module _ (z : Size) (b : Board) (q : List ℕ) (queues : ℕ → List ℕ) (s : Settled z b q queues) where
   -- the walk from byte 0 visits the task queue
   pub order-walked : z .tasks ≤ z .messages → order z b ≡ q
   order-walked l =

@@ -17,7 +17,7 @@ use Rattle.board.proofs.Numbered.{nth-put, nth-put-other, nth-alike, length-put
 use Rattle.paper.specs.Rules.{nextMessage}
 use Rattle.paper.specs.Changes.{linkMessage, withMptr, withQueue}
 use Rattle.linked.specs.Linked.{Numbered}
-use Rattle.kept.specs.Stands.{Word, FitsTask, Fits}
+use Rattle.kept.specs.Settled.{Word, FitsTask, Fits}
 use Rattle.kept.proofs.Reading.{task-alike, fits-task, fits-message, relink-keeps, first-holds, relink-holds}
 
 -- ---- the board field by field

@@ -1,4 +1,4 @@
--- A message comes out of a queue into a task's hands, and the board stands. Receive, the delivery of dispatch, cancel message.
+-- A message comes out of a queue into a task's hands, and the board is settled. Receive, the delivery of dispatch, cancel message.
 -- Assumes nothing.
 use mathlib.Core.Path.{_≡_, refl, sym, ap, _∙_, subst, fun-ext}
 use mathlib.Core.Logic.{_≢_, inl}
@@ -31,21 +31,21 @@ use Rattle.paper.specs.declared.call.Call.the-variants.{Receive, CancelMessage}
 use Rattle.paper.specs.Rules.{present, nextMessage, messageNumber, queue, running}
 use Rattle.paper.specs.Changes.{clears, withQueue, hold, takeFirst}
 use Rattle.paper.specs.Effects.{emptied, cancelMessage}
-use Rattle.paper.specs.Refusals.{no3, no4, no6, no12, no13, own, Go, lowest}
+use Rattle.paper.specs.Refusals.{no3, no4, no6, no12, no13, ownRow, Go, lowest}
 use Rattle.linked.specs.Linked.{Numbered}
-use Rattle.linked.specs.Sound.{Kept}
-use Rattle.kept.specs.Stands.{Stands}
+use Rattle.linked.specs.Sound.{PlaceGood}
+use Rattle.kept.specs.Settled.{Settled}
 use Rattle.kept.specs.After.{changed, queuesAfter}
 use Rattle.kept.specs.Claims.{Sizes}
 use Rattle.kept.proofs.Reading.{cond-holds, message-put, placed-numbered, queued-placed}
 use Rattle.kept.proofs.Reading.{queue-walked, runner-says, go-passed, runner-passed, task-passed}
 use Rattle.kept.proofs.Holding.{isQueued}
 use Rattle.kept.proofs.Relinked.{requeued, requeued-is, requeued-stat, requeued-alike}
-use Rattle.kept.proofs.Waiting.{Pending, queue-awake, task-numbered, queued-starts, stays-stands, emptied-stands, delivered-stands}
-use Rattle.kept.proofs.Moving.{Move, moved-stands}
+use Rattle.kept.proofs.Waiting.{Pending, queue-awake, task-numbered, queued-starts, stays-settled, emptied-settled, delivered-settled}
+use Rattle.kept.proofs.Moving.{Moved, moved-settled}
 
 -- ---- m out of the queue of r, into the hands of c
-module _ (z : Size) (b : Board) (order : List ℕ) (queues : ℕ → List ℕ) (sizes : Sizes z) (stands : Stands z b order queues)
+module _ (z : Size) (b : Board) (order : List ℕ) (queues : ℕ → List ℕ) (sizes : Sizes z) (settled : Settled z b order queues)
     (m r c : ℕ) (queued : place b m ≡ QueuedAt (taskNo r)) (there : present b c ≡ true) where
   abbrev q : List ℕ
   q = without m (queues r)
@@ -54,20 +54,20 @@ module _ (z : Size) (b : Board) (order : List ℕ) (queues : ℕ → List ℕ) (
   w = withLink (message (requeued b r q) m) 0
 
   numbered : Numbered (z .messages) m
-  numbered = rw (stands .fits .places) at (placed-numbered b m (queued-placed b m r queued))
+  numbered = rw (settled .fits .places) at (placed-numbered b m (queued-placed b m r queued))
 
-  kept : Kept z b m (QueuedAt (taskNo r))
-  kept = subst (Kept z b m) queued (stands .kept m numbered)
+  good : PlaceGood z b m (QueuedAt (taskNo r))
+  good = subst (PlaceGood z b m) queued (settled .places m numbered)
 
   receiver : Numbered (z .tasks) r
-  receiver = task-numbered z b order queues stands r (kept .3)
+  receiver = task-numbered z b order queues settled r (good .3)
 
-  out-move : Move z b r q m w (HeldBy (taskNo c))
+  out-move : Moved z b r q m w (HeldBy (taskNo c))
   out-move =
-      let l = stands .linked .messages r receiver in
+      let l = settled .linked .messages r receiver in
       let d : Once (queues r) = chain-once (nextMessage b) (task b r .mptr) (queues r) (l .chain) in
-      let n = task-numbered z b order queues stands c there in record {
-        there = kept .3;
+      let n = task-numbered z b order queues settled c there in record {
+        there = good .3;
         once = once-without m (queues r) d;
         sorted = sorted-without (messageNumber b) m (queues r) (l .sorted);
         others = λ y g. (
@@ -80,21 +80,21 @@ module _ (z : Size) (b : Board) (order : List ℕ) (queues : ℕ → List ℕ) (
         );
         elsewhere = λ k g. ((λ e. g (omega (arith, ap placeByte (sym e ∙ queued)))), λ e. true≢false (sym (ap isQueued e)));
         numbered = numbered;
-        pointers = kept .0;
+        pointers = good .0;
         link = λ i. absurd (out-not-in m q (out-without m (queues r) d) i);
         priority = ap (λ (x : Message). number (x .prio)) (requeued-alike b r q m);
         fits = λ f. record { stat = f .stat; prio = f .prio; link = omega arith; rptr = f .rptr; sptr = f .sptr };
         byte = (omega (arith, n .1, sizes .tasks), place-held z c (n .0) (n .1));
-        kept = λ g. rw (message-put b m w (rw (← stands .fits .messages) at numbered))
+        good = λ g. rw (message-put b m w (rw (← settled .fits .messages) at numbered))
             (record { receiver = g .receiver; sender = g .sender }, refl, there);
       }
 
   -- the flags of r are to be settled
-  out-stands : Pending z (hold (withQueue b r (without m (queues r))) c m) order (changed queues r (without m (queues r))) r
+  out-settled : Pending z (hold (withQueue b r (without m (queues r))) c m) order (changed queues r (without m (queues r))) r
       (task b r .mptr ≡ 0)
-  out-stands =
+  out-settled =
       subst (λ (s : Board). Pending z (hold s c m) order (changed queues r q) r (task b r .mptr ≡ 0)) (sym (requeued-is b r q))
-      (moved-stands z b order queues sizes stands r q m w (HeldBy (taskNo c)) out-move)
+      (moved-settled z b order queues sizes settled r q m w (HeldBy (taskNo c)) out-move)
 
 -- ---- the first of its own queue
 -- what is left without the first
@@ -106,13 +106,13 @@ rest-without (x ∷ q) = rw (eq-eqb x x refl, without)
 pub take-stat : (z : Size) (b : Board) (c k : ℕ) → task (takeFirst z b c) k .stat ≡ task b k .stat
 take-stat z b c k = requeued-stat b c (restOf (queue z b c)) k
 
-module _ (z : Size) (b : Board) (order : List ℕ) (queues : ℕ → List ℕ) (sizes : Sizes z) (stands : Stands z b order queues)
+module _ (z : Size) (b : Board) (order : List ℕ) (queues : ℕ → List ℕ) (sizes : Sizes z) (settled : Settled z b order queues)
     (c : ℕ) (there : present b c ≡ true) where
   taker : Numbered (z .tasks) c
-  taker = task-numbered z b order queues stands c there
+  taker = task-numbered z b order queues settled c there
 
   walked : queue z b c ≡ queues c
-  walked = queue-walked z b order queues stands c taker
+  walked = queue-walked z b order queues settled c taker
 
   -- the queue is not empty
   module _ (n : task b c .mptr ≢ 0) where
@@ -124,16 +124,16 @@ module _ (z : Size) (b : Board) (order : List ℕ) (queues : ℕ → List ℕ) (
     take-pending : Pending z (takeFirst z b c) order (changed queues c (restOf (queues c))) c (task b c .mptr ≡ 0)
     take-pending =
         let m : ℕ = firstOf (queues c) in
-        let l = stands .linked .messages c taker in
-        let d = out-stands z b order queues sizes stands m c c (l .exact m .0 (first-in (queues c) (l .chain))) there in
+        let l = settled .linked .messages c taker in
+        let d = out-settled z b order queues sizes settled m c c (l .exact m .0 (first-in (queues c) (l .chain))) there in
         subst (λ (q : List ℕ). Pending z (hold (withQueue b c (restOf q)) c (firstOf q)) order
         (changed queues c (restOf (queues c))) c (task b c .mptr ≡ 0)) (sym walked)
         (subst (λ (q : List ℕ). Pending z (hold (withQueue b c q) c m) order (changed queues c q) c (task b c .mptr ≡ 0))
         (rest-without (queues c)) d)
 
-    first-stands : has (task b c .stat) MHBS ≡ false → Stands z (takeFirst z b c) order (changed queues c (restOf (queues c)))
-    first-stands e =
-        stays-stands z (takeFirst z b c) order _ c (task b c .mptr ≡ 0) take-pending
+    first-settled : has (task b c .stat) MHBS ≡ false → Settled z (takeFirst z b c) order (changed queues c (restOf (queues c)))
+    first-settled e =
+        stays-settled z (takeFirst z b c) order _ c (task b c .mptr ≡ 0) take-pending
         (queue-awake _ (task b c .mptr ≡ 0) (take-pending .flags) n)
         (λ d. absurd (true≢false (sym d ∙ ap (λ (s : Status). has s MHBS) (take-stat z b c c) ∙ e)))
 
@@ -154,26 +154,26 @@ module _ (z : Size) (b : Board) (order : List ℕ) (queues : ℕ → List ℕ) (
         fun-ext (λ j. cond-holds (λ (q : List ℕ). q ≡ queues j) (eqb j c) (restOf (queues c)) (queues j)
         (λ d. ap restOf e ∙ sym e ∙ ap queues (sym (eqb-true j c d))) (λ d. refl))
 
-    none-stands : Stands z (takeFirst z b c) order (changed queues c (restOf (queues c)))
-    none-stands = rw (take-none, rest-none) stands
+    none-settled : Settled z (takeFirst z b c) order (changed queues c (restOf (queues c)))
+    none-settled = rw (take-none, rest-none) settled
 
   -- a task that isn't due a message takes the first of its queue, or none
-  pub take-stands : has (task b c .stat) MHBS ≡ false → Stands z (takeFirst z b c) order (changed queues c (restOf (queues c)))
-  take-stands e = step (ℕ-discrete (task b c .mptr) 0)
+  pub take-settled : has (task b c .stat) MHBS ≡ false → Settled z (takeFirst z b c) order (changed queues c (restOf (queues c)))
+  take-settled e = step (ℕ-discrete (task b c .mptr) 0)
     where
-      step : Dec (task b c .mptr ≡ 0) → Stands z (takeFirst z b c) order (changed queues c (restOf (queues c)))
-      step (yes n) = none-stands n
-      step (no n) = first-stands n e
+      step : Dec (task b c .mptr ≡ 0) → Settled z (takeFirst z b c) order (changed queues c (restOf (queues c)))
+      step (yes n) = none-settled n
+      step (no n) = first-settled n e
 
   -- one that is due a message has one
   pub due-queued : has (task b c .stat) MHBS ≡ true → task b c .mptr ≢ 0
-  due-queued e = stands .flags c taker .due e
+  due-queued e = settled .flags c taker .due e
 
   -- it gets the first of its queue and is due none
-  pub deliver-stands : has (task b c .stat) MHBS ≡ true
-      → Stands z (clears (takeFirst z b c) c MHBS) order (changed queues c (restOf (queues c)))
-  deliver-stands e =
-      delivered-stands z (takeFirst z b c) order _ c (task b c .mptr ≡ 0) (take-pending (due-queued e))
+  pub deliver-settled : has (task b c .stat) MHBS ≡ true
+      → Settled z (clears (takeFirst z b c) c MHBS) order (changed queues c (restOf (queues c)))
+  deliver-settled e =
+      delivered-settled z (takeFirst z b c) order _ c (task b c .mptr ≡ 0) (take-pending (due-queued e))
       (ap (λ (s : Status). has s MHBS) (take-stat z b c c) ∙ e)
 
 -- ---- the calls
@@ -184,27 +184,27 @@ queued-passed r (HeldBy k) e = absurd (true≢false e)
 queued-passed r (QueuedAt k) e = ap (λ (n : ℕ). QueuedAt (taskNo n)) (eqb-true (k .0) r (not-false (eqb (k .0) r) e))
 queued-passed r (Nowhere p) e = absurd (true≢false e)
 
-module _ (z : Size) (b : Board) (order : List ℕ) (queues : ℕ → List ℕ) (sizes : Sizes z) (stands : Stands z b order queues) where
+module _ (z : Size) (b : Board) (order : List ℕ) (queues : ℕ → List ℕ) (sizes : Sizes z) (settled : Settled z b order queues) where
   -- receive: the first of its queue, or none
-  pub receive-stands : let c = running z b in has (task b c .stat) MHBS ≡ false → lowest (own z b c Receive) ≡ Go
-      → Stands z (takeFirst z b c) order (queuesAfter b c queues Receive)
-  receive-stands e g =
+  pub receive-settled : let c = running z b in has (task b c .stat) MHBS ≡ false → lowest (ownRow z b c Receive) ≡ Go
+      → Settled z (takeFirst z b c) order (queuesAfter b c queues Receive)
+  receive-settled e g =
       let c : ℕ = running z b in
-      take-stands z b order queues sizes stands c (runner-says z b (runner-passed c (go-passed (no3 c) [] g .0)) .0) e
+      take-settled z b order queues sizes settled c (runner-says z b (runner-passed c (go-passed (no3 c) [] g .0)) .0) e
 
   -- cancel message: out of the queue of the task meant
-  pub cancel-message-stands : (m r : ℕ) → let c = running z b in lowest (own z b c (CancelMessage m r)) ≡ Go
-      → Stands z (cancelMessage z b c m r) order (queuesAfter b c queues (CancelMessage m r))
-  cancel-message-stands m r g =
+  pub cancel-message-settled : (m r : ℕ) → let c = running z b in lowest (ownRow z b c (CancelMessage m r)) ≡ Go
+      → Settled z (cancelMessage z b c m r) order (queuesAfter b c queues (CancelMessage m r))
+  cancel-message-settled m r g =
       let c : ℕ = running z b in
       let s = go-passed (no3 c) (no4 z m ∷ no6 z b r ∷ no12 b m r ∷ no13 b c m ∷ []) g in
       let t = go-passed (no4 z m) (no6 z b r ∷ no12 b m r ∷ no13 b c m ∷ []) (s .1) in
       let u = go-passed (no6 z b r) (no12 b m r ∷ no13 b c m ∷ []) (t .1) in
       let n = task-passed z b r (u .0) .0 in
       let e = queued-passed r (place b m) (go-passed (no12 b m r) (no13 b c m ∷ []) (u .1) .0) in
-      let d = out-stands z b order queues sizes stands m r c e (runner-says z b (runner-passed c (s .0)) .0) in
+      let d = out-settled z b order queues sizes settled m r c e (runner-says z b (runner-passed c (s .0)) .0) in
       subst (λ (q : List ℕ).
-      Stands z (emptied (hold (withQueue b r (without m q)) c m) r) order (changed queues r (without m (queues r))))
-      (sym (queue-walked z b order queues stands r n))
-      (emptied-stands z _ order (changed queues r (without m (queues r))) r (task b r .mptr ≡ 0) d
-      (queue-awake _ (task b r .mptr ≡ 0) (d .flags) (queued-starts z b order queues (stands .linked) r m n e)))
+      Settled z (emptied (hold (withQueue b r (without m q)) c m) r) order (changed queues r (without m (queues r))))
+      (sym (queue-walked z b order queues settled r n))
+      (emptied-settled z _ order (changed queues r (without m (queues r))) r (task b r .mptr ≡ 0) d
+      (queue-awake _ (task b r .mptr ≡ 0) (d .flags) (queued-starts z b order queues (settled .linked) r m n e)))

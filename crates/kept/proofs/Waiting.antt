@@ -21,12 +21,12 @@ use Rattle.paper.specs.declared.call.Call.the-variants.{ReceiveAndWait}
 use Rattle.paper.specs.Rules.{present, nextMessage, emptyQueue, running}
 use Rattle.paper.specs.Changes.{sets, clears}
 use Rattle.paper.specs.Effects.{woken, waits, emptied}
-use Rattle.paper.specs.Refusals.{no3, own, Go, lowest}
+use Rattle.paper.specs.Refusals.{no3, ownRow, Go, lowest}
 use Rattle.linked.specs.Linked.{Numbered, Linked}
 use Rattle.linked.specs.Sound.{Flags}
-use Rattle.kept.specs.Stands.{Stands}
+use Rattle.kept.specs.Settled.{Settled}
 use Rattle.kept.proofs.Reading.{cond-holds, task-put, task-other, task-alike, present-numbered, runner-says, go-passed, runner-passed}
-use Rattle.kept.proofs.Flagging.{Flagged, flags-ready, flags-waiting, StandsBut, but-stands, but-clears, stands-sets}
+use Rattle.kept.proofs.Flagging.{Flagged, flags-ready, flags-waiting, SettledBut, but-settled, but-clears, settled-sets}
 use Rattle.kept.proofs.Flagging.{Apart, apart-WAIT, apart-MHBS}
 
 -- ---- a task that waits for nothing and is due nothing
@@ -67,13 +67,13 @@ module _ (s : Status) (Empty : Type 0) (f : Flags s Empty) where
 -- ---- the wait
 module _ (z : Size) (b : Board) (order : List ℕ) (queues : ℕ → List ℕ) (c : ℕ) (there : present b c ≡ true) where
   -- an idle task comes to wait for a message, or to be due one that is queued
-  pub waits-stands : Stands z b order queues → Idle (task b c .stat) → Stands z (waits c b) order queues
-  waits-stands h i =
+  pub waits-settled : Settled z b order queues → Idle (task b c .stat) → Settled z (waits c b) order queues
+  waits-settled h i =
       let s : Status = task b c .stat in
-      cond-holds (λ (bit : ℕ). Stands z (sets b c bit) order queues) (emptyQueue b c) WAIT MHBS
-      (λ e. stands-sets z b order queues c WAIT there apart-WAIT h (flags-waiting (withBit s WAIT) _
+      cond-holds (λ (bit : ℕ). Settled z (sets b c bit) order queues) (emptyQueue b c) WAIT MHBS
+      (λ e. settled-sets z b order queues c WAIT there apart-WAIT h (flags-waiting (withBit s WAIT) _
       (withBit-other s WAIT IWAT refl ∙ i .1) (withBit-other s WAIT MHBS refl ∙ i .2) (eqb-true (task b c .mptr) 0 e)))
-      (λ e. stands-sets z b order queues c MHBS there apart-MHBS h (flags-ready (withBit s MHBS) _
+      (λ e. settled-sets z b order queues c MHBS there apart-MHBS h (flags-ready (withBit s MHBS) _
       (withBit-other s MHBS WAIT refl ∙ i .0) (withBit-other s MHBS IWAT refl ∙ i .1) (λ d. eqb-false (task b c .mptr) 0 e)))
 
 -- whom a message wakes doesn't matter to one that doesn't wait
@@ -84,17 +84,17 @@ woken-stat b r k w =
     ap (λ (t : Task). t .stat) (task-other (clears b r WAIT) r k _ d ∙ task-other b r k _ d)) (λ e. refl)
 
 -- receive and wait
-pub receive-and-wait-stands : (z : Size) (b : Board) (order : List ℕ) (queues : ℕ → List ℕ) → Stands z b order queues
-    → let c = running z b in has (task b c .stat) MHBS ≡ false → lowest (own z b c ReceiveAndWait) ≡ Go
-    → Stands z (waits c b) order queues
-receive-and-wait-stands z b order queues h m g =
+pub receive-and-wait-settled : (z : Size) (b : Board) (order : List ℕ) (queues : ℕ → List ℕ) → Settled z b order queues
+    → let c = running z b in has (task b c .stat) MHBS ≡ false → lowest (ownRow z b c ReceiveAndWait) ≡ Go
+    → Settled z (waits c b) order queues
+receive-and-wait-settled z b order queues h m g =
     let c : ℕ = running z b in
     let r = runner-says z b (runner-passed c (go-passed (no3 c) [] g .0)) in
-    waits-stands z b order queues c (r .0) h (r .1, r .2, m)
+    waits-settled z b order queues c (r .0) h (r .1, r .2, m)
 
 -- ---- who is there, what is queued
 -- a present task has a number
-pub task-numbered : (z : Size) (b : Board) (order : List ℕ) (queues : ℕ → List ℕ) → Stands z b order queues
+pub task-numbered : (z : Size) (b : Board) (order : List ℕ) (queues : ℕ → List ℕ) → Settled z b order queues
     → (k : ℕ) → present b k ≡ true → Numbered (z .tasks) k
 task-numbered z b order queues s k h = rw (s .fits .tasks) at (present-numbered b k h)
 
@@ -108,9 +108,9 @@ queued-starts z b order queues l r m n e = let g = l .messages r n in step (queu
     step (y ∷ q) c i = λ d. c .1 (sym (c .0) ∙ d)
 
 -- ---- the flags of r still to be settled
--- all but them stands, and they went together with the queue before, of which Empty says that it was empty
+-- all but them is settled, and they went together with the queue before, of which Empty says that it was empty
 pub record Pending (z : Size) (b : Board) (order : List ℕ) (queues : ℕ → List ℕ) (r : ℕ) (Empty : Type 0) : Type 0 where
-  pub but : StandsBut z b order queues r
+  pub but : SettledBut z b order queues r
   pub there : present b r ≡ true
   pub flags : Flags (task b r .stat) Empty
 
@@ -120,46 +120,46 @@ module _ (z : Size) (b : Board) (order : List ℕ) (queues : ℕ → List ℕ) (
   s = task b r .stat
 
   -- they stay as they are
-  pub stays-stands : has (task b r .stat) WAIT ≡ false → (has (task b r .stat) MHBS ≡ true → task b r .mptr ≢ 0)
-      → Stands z b order queues
-  stays-stands w d = but-stands z b order queues r (h .but) (flags-requeued s Empty (h .flags) _ w d)
+  pub stays-settled : has (task b r .stat) WAIT ≡ false → (has (task b r .stat) MHBS ≡ true → task b r .mptr ≢ 0)
+      → Settled z b order queues
+  stays-settled w d = but-settled z b order queues r (h .but) (flags-requeued s Empty (h .flags) _ w d)
 
   -- a bit is cleared that leaves r idle
   module _ (bit : ℕ) (apart : Apart bit) (i : Idle (withoutBit (task b r .stat) bit)) where
     cleared : task (clears b r bit) r ≡ taskWithStat (task b r) (withoutBit s bit)
     cleared = task-put b r _ (present-numbered b r (h .there))
 
-    clears-stands : Stands z (clears b r bit) order queues
-    clears-stands =
-        but-stands z (clears b r bit) order queues r (but-clears z b order queues r bit (h .there) apart (h .but))
+    clears-settled : Settled z (clears b r bit) order queues
+    clears-settled =
+        but-settled z (clears b r bit) order queues r (but-clears z b order queues r bit (h .there) apart (h .but))
         (subst Flagged (sym cleared) (flags-ready _ _ (i .0) (i .1) (λ d. absurd (true≢false (sym d ∙ i .2)))))
 
     -- and r then waits
-    clears-waits : (t : Bool) → emptyQueue b r ≡ t → Stands z (sets (clears b r bit) r (cond t WAIT MHBS)) order queues
+    clears-waits : (t : Bool) → emptyQueue b r ≡ t → Settled z (sets (clears b r bit) r (cond t WAIT MHBS)) order queues
     clears-waits t e =
-        subst (λ (v : Bool). Stands z (sets (clears b r bit) r (cond v WAIT MHBS)) order queues)
+        subst (λ (v : Bool). Settled z (sets (clears b r bit) r (cond v WAIT MHBS)) order queues)
         (task-alike (λ (x : Task). eqb (x .mptr) 0) b r r _ refl ∙ e)
-        (waits-stands z (clears b r bit) order queues r
+        (waits-settled z (clears b r bit) order queues r
         (ap (λ (x : Task). has (x .stat) TCBB) cleared ∙ withoutBit-other s bit TCBB (apart .3) ∙ h .there)
-        clears-stands (subst (λ (x : Task). Idle (x .stat)) (sym cleared) i))
+        clears-settled (subst (λ (x : Task). Idle (x .stat)) (sym cleared) i))
 
   -- now it has a message: it is woken
-  pub woken-stands : task b r .mptr ≢ 0 → Stands z (woken b r) order queues
-  woken-stands n =
-      cond-holds (λ (c : Board). Stands z c order queues) (has s WAIT) (sets (clears b r WAIT) r MHBS) b
+  pub woken-settled : task b r .mptr ≢ 0 → Settled z (woken b r) order queues
+  woken-settled n =
+      cond-holds (λ (c : Board). Settled z c order queues) (has s WAIT) (sets (clears b r WAIT) r MHBS) b
       (λ e. clears-waits WAIT apart-WAIT (waiting-idle s Empty (h .flags) e) false (ne-eqb (task b r .mptr) 0 n))
-      (λ e. stays-stands e (λ d. n))
+      (λ e. stays-settled e (λ d. n))
 
   -- it had a message and may have none left: it waits again
-  pub emptied-stands : has (task b r .stat) WAIT ≡ false → Stands z (emptied b r) order queues
-  emptied-stands w = step (has s MHBS) refl (emptyQueue b r) refl
+  pub emptied-settled : has (task b r .stat) WAIT ≡ false → Settled z (emptied b r) order queues
+  emptied-settled w = step (has s MHBS) refl (emptyQueue b r) refl
     where
       step : (t : Bool) → has s MHBS ≡ t → (v : Bool) → emptyQueue b r ≡ v
-          → Stands z (cond (t && v) (sets (clears b r MHBS) r WAIT) b) order queues
+          → Settled z (cond (t && v) (sets (clears b r MHBS) r WAIT) b) order queues
       step true e true g = clears-waits MHBS apart-MHBS (due-idle s Empty (h .flags) e) true g
-      step true e false g = stays-stands w (λ d. eqb-false (task b r .mptr) 0 g)
-      step false e v g = stays-stands w (λ d. absurd (true≢false (sym d ∙ e)))
+      step true e false g = stays-settled w (λ d. eqb-false (task b r .mptr) 0 g)
+      step false e v g = stays-settled w (λ d. absurd (true≢false (sym d ∙ e)))
 
   -- it was due a message that it has got
-  pub delivered-stands : has (task b r .stat) MHBS ≡ true → Stands z (clears b r MHBS) order queues
-  delivered-stands e = clears-stands MHBS apart-MHBS (due-idle s Empty (h .flags) e)
+  pub delivered-settled : has (task b r .stat) MHBS ≡ true → Settled z (clears b r MHBS) order queues
+  delivered-settled e = clears-settled MHBS apart-MHBS (due-idle s Empty (h .flags) e)

@@ -1,5 +1,5 @@
 -- What calls keep, as statements; their proofs are in proofs/Theorems, those of the frames in proofs/Framed. A reader must believe this file.
---   BodyStands          the body of a call that no refusal of its row stops leaves R1 to R6, and the lists that After says
+--   BodySettles          the body of a call that no refusal of its row stops leaves R1 to R6, and the lists that After says
 --   BodyFrame           it changes only the records that Frames says; DispatchFrame: dispatch only the running task and its message
 --   NeverStuck          refusal 15 is given on no board that passes
 --   PassingStaysPassing an accepted call on a board that passes leaves one that passes
@@ -20,9 +20,9 @@ use Rattle.paper.specs.declared.answer.Refusal.the-variants.{NothingToDeliver}
 use Rattle.paper.specs.declared.answer.Answer.the-variants.{Refused}
 use Rattle.paper.specs.Rules.{queue, running, passes}
 use Rattle.paper.specs.Changes.{clears, takeFirst}
-use Rattle.paper.specs.Refusals.{own, Go, lowest}
-use Rattle.paper.specs.Step.{Outcome, Done, body, effect}
-use Rattle.kept.specs.Stands.{Byte, Stands, Fitting}
+use Rattle.paper.specs.Refusals.{ownRow, Go, lowest}
+use Rattle.paper.specs.Outcomes.{Outcome, Undispatched, body, effect}
+use Rattle.kept.specs.Settled.{Byte, Settled, Fitting}
 use Rattle.kept.specs.After.{orderAfter, queuesAfter}
 use Rattle.kept.specs.Frames.{tasksOf, messagesOf, queueOf, relinks, Frame}
 
@@ -32,22 +32,22 @@ pub record Sizes (z : Size) : Type 0 where
   pub limit : z .tasks ≤ z .messages
   pub links : z .messages < 65536
 
-abbrev pub BodyStands : Type 0
-BodyStands =
-    (z : Size) (b : Board) (order : List ℕ) (queues : ℕ → List ℕ) (call : Call) → Sizes z → Fitting call → Stands z b order queues
-    → let c = running z b in has (task b c .stat) MHBS ≡ false → lowest (own z b c call) ≡ Go
-    → Stands z (body z b c call .board) (orderAfter b order call) (queuesAfter b c queues call)
+abbrev pub BodySettles : Type 0
+BodySettles =
+    (z : Size) (b : Board) (order : List ℕ) (queues : ℕ → List ℕ) (call : Call) → Sizes z → Fitting call → Settled z b order queues
+    → let c = running z b in has (task b c .stat) MHBS ≡ false → lowest (ownRow z b c call) ≡ Go
+    → Settled z (body z b c call .board) (orderAfter b order call) (queuesAfter b c queues call)
 
 -- ---- what else stays
 abbrev pub BodyFrame : Type 0
 BodyFrame =
-    (z : Size) (b : Board) (order : List ℕ) (queues : ℕ → List ℕ) (call : Call) → Sizes z → Stands z b order queues
-    → let c = running z b in lowest (own z b c call) ≡ Go
+    (z : Size) (b : Board) (order : List ℕ) (queues : ℕ → List ℕ) (call : Call) → Sizes z → Settled z b order queues
+    → let c = running z b in lowest (ownRow z b c call) ≡ Go
     → Frame b (body z b c call .board) (tasksOf b c call) (messagesOf b c call) (queue z b (queueOf b c call)) (relinks call)
 
 abbrev pub DispatchFrame : Type 0
 DispatchFrame =
-    (z : Size) (b : Board) (order : List ℕ) (queues : ℕ → List ℕ) → Sizes z → Stands z b order queues
+    (z : Size) (b : Board) (order : List ℕ) (queues : ℕ → List ℕ) → Sizes z → Settled z b order queues
     → let c = running z b in has (task b c .stat) MHBS ≡ true
     → Frame b (clears (takeFirst z b c) c MHBS) (c ∷ []) (task b c .mptr ∷ []) (queue z b c) false
 

@@ -1,4 +1,4 @@
-pub mod Stands
+pub mod Settled
 pub mod After
 pub mod Frames
 pub mod Claims

@@ -21,7 +21,7 @@ use Rattle.board.specs.Places.{isQueuedAt}
 use Rattle.board.specs.Board.{Board, task, place}
 use Rattle.paper.specs.Rules.{isThere, present, nextMessage, order, queue, passes}
 use Rattle.linked.specs.Linked.{Numbered, Linked}
-use Rattle.linked.specs.Sound.{Kept, Sound}
+use Rattle.linked.specs.Sound.{PlaceGood, Sound}
 use Rattle.linked.specs.Claims.{Whereabouts, free, held, queued}
 use Rattle.linked.proofs.Says.{Says, _&_, says-zero, says-not, says-each}
 use Rattle.linked.proofs.Tests.{says-allZero, says-goodTask, says-goodMessage, says-isQueuedAt, says-goodFlags}
@@ -68,19 +68,19 @@ module _ (z : Size) (b : Board) (tasks : length (b .tasks) ≡ z .tasks) (places
       & says-each (λ m. says-goodMessage z b m (place b m))
       & says-each (λ k. says-lists Free (isQueuedAt k) (b .places) refl (λ m. says-isQueuedAt k (place b m)) fuel-places)
       & says-each (λ k. says-goodFlags _ _ _ says-zero) & says-not) (
-        (λ (((((((byte1, zeros), records), listed), kept), lists), flags), runner). record {
+        (λ (((((((byte1, zeros), records), listed), places), lists), flags), runner). record {
           order = order z b;
           queues = queue z b;
           byte1 = byte1;
           zeros = zeros;
           records = records;
           linked = record { tasks = listed; messages = lists };
-          kept = kept;
+          places = places;
           flags = flags;
           runner = runner;
         }),
         λ s. let w = linked-walked (s .order) (s .queues) (s .linked) in
-            (((((((s .byte1, s .zeros), s .records), w .tasks), s .kept), w .messages), s .flags), rw (linked-walks (s .order) (s .queues) (s .linked) .0) (s .runner)),
+            (((((((s .byte1, s .zeros), s .records), w .tasks), s .places), w .messages), s .flags), rw (linked-walks (s .order) (s .queues) (s .linked) .0) (s .runner)),
       )
 
   -- ---- a board that passes
@@ -108,14 +108,14 @@ module _ (z : Size) (b : Board) (tasks : length (b .tasks) ≡ z .tasks) (places
     one-queue m k d j i h = sym (eqb-true (k .0) j (says-isQueuedAt j (QueuedAt k) .1 (sym d ∙ in-queue m j i .0 h)))
 
     -- a message is where its place says
-    kept-whereabouts : (m : ℕ) (p : Place) → place b m ≡ p → Kept z b m p → Whereabouts z b m
-    kept-whereabouts m Free d k = free d k (out-queue m Free d (λ j. refl))
-    kept-whereabouts m (HeldBy k) d (r, l, t) = held (k .0) d t (out-queue m (HeldBy k) d (λ j. refl))
-    kept-whereabouts m (QueuedAt k) d (r, o, l, t) =
+    good-whereabouts : (m : ℕ) (p : Place) → place b m ≡ p → PlaceGood z b m p → Whereabouts z b m
+    good-whereabouts m Free d k = free d k (out-queue m Free d (λ j. refl))
+    good-whereabouts m (HeldBy k) d (r, l, t) = held (k .0) d t (out-queue m (HeldBy k) d (λ j. refl))
+    good-whereabouts m (QueuedAt k) d (r, o, l, t) =
         let i = present-numbered (k .0) t in
         queued (k .0) d t (in-queue m (k .0) i .1 d) (once-queue (k .0) i) (one-queue m k d)
-    kept-whereabouts m (Nowhere p) d k = absurd k
+    good-whereabouts m (Nowhere p) d k = absurd k
 
     -- and each has a place
     pub passes-whereabouts : (m : ℕ) → Numbered (z .messages) m → Whereabouts z b m
-    passes-whereabouts m h = kept-whereabouts m (place b m) refl (says-passes .0 e .kept m h)
+    passes-whereabouts m h = good-whereabouts m (place b m) refl (says-passes .0 e .places m h)

@@ -19,7 +19,7 @@ use Rattle.board.specs.Places.{isQueuedAt}
 use Rattle.board.specs.Records.{noTask, noMessage}
 use Rattle.board.specs.Board.{Board, message}
 use Rattle.paper.specs.Rules.{present, allZero, zeroTask, goodHead, goodTask, zeroMessage, goodPointers, goodMessage, goodFlags}
-use Rattle.linked.specs.Sound.{Proper, Pointers, Kept, Flags}
+use Rattle.linked.specs.Sound.{Proper, Pointers, PlaceGood, Flags}
 use Rattle.linked.proofs.Says.{Says, says-zero, says-leb, says-ltb, _&_, says-or, says-where}
 use Rattle.linked.proofs.Says.{says-not, says-never, says-apart}
 
@@ -68,7 +68,7 @@ says-goodPointers z r =
 
 -- a message, by its place
 pub says-goodMessage : (z : Size) (b : Board) (m : ℕ) (p : Place)
-    → Says (goodMessage z (present b) (message b m) p) (Kept z b m p)
+    → Says (goodMessage z (present b) (message b m) p) (PlaceGood z b m p)
 says-goodMessage z b m Free = says-zeroMessage (message b m)
 says-goodMessage z b m (HeldBy k) =
     Iff·trans (says-goodPointers z (message b m) & says-zero & Iff·rfl) ((λ ((r, l), t). (r, l, t)), λ (r, l, t). ((r, l), t))

@@ -1,6 +1,6 @@
 -- R1 to R7 as document 01 words them, with no test that computes: what a board that passes is. A reader must believe this file.
 --   Proper t             what R2 asks of a present task
---   Kept z b m p         what R4 asks of the message m where its place is p
+--   PlaceGood z b m p         what R4 asks of the message m where its place is p
 --   Flags s Empty        what R6 asks of a status; Empty says that the queue is empty
 --   Sound z b            R1 to R7
 -- Assumes nothing.
@@ -30,16 +30,16 @@ pub record Proper (t : Task) : Type 0 where
   pub low : 0x03 ≤ t .prio
   pub high : t .prio ≤ 0xFD
 
-pub record Pointers (z : Size) (r : Message) : Type 0 where
-  pub receiver : r .rptr ≤ z .tasks
-  pub sender : r .sptr ≤ z .tasks
+pub record Pointers (z : Size) (u : Message) : Type 0 where
+  pub receiver : u .rptr ≤ z .tasks
+  pub sender : u .sptr ≤ z .tasks
 
-abbrev pub Kept : Size → Board → ℕ → Place → Type 0
-Kept z b m Free = message b m ≡ noMessage
-Kept z b m (HeldBy k) = Pointers z (message b m) × (message b m .link ≡ 0) × (present b (k .0) ≡ true)
-Kept z b m (QueuedAt k) =
+abbrev pub PlaceGood : Size → Board → ℕ → Place → Type 0
+PlaceGood z b m Free = message b m ≡ noMessage
+PlaceGood z b m (HeldBy k) = Pointers z (message b m) × (message b m .link ≡ 0) × (present b (k .0) ≡ true)
+PlaceGood z b m (QueuedAt k) =
     Pointers z (message b m) × (fifo (message b m .prio) ≡ true) × (message b m .prio < 0xFF) × (present b (k .0) ≡ true)
-Kept z b m (Nowhere p) = ⊥
+PlaceGood z b m (Nowhere p) = ⊥
 
 pub record Flags (s : Status) (Empty : Type 0) : Type 0 where
   pub one : has s WAIT ≡ true → has s IWAT ≡ false
@@ -54,6 +54,6 @@ pub record Sound (z : Size) (b : Board) : Type 0 where
   pub zeros : All (λ x. x ≡ 0) (b .zeros)  -- R1
   pub records : (k : ℕ) → Numbered (z .tasks) k → (task b k ≡ noTask) ⊎ Proper (task b k)  -- R2
   pub linked : Linked z b order queues  -- R3, R5
-  pub kept : (m : ℕ) → Numbered (z .messages) m → Kept z b m (place b m)  -- R4
+  pub places : (m : ℕ) → Numbered (z .messages) m → PlaceGood z b m (place b m)  -- R4
   pub flags : (k : ℕ) → Numbered (z .tasks) k → Flags (task b k .stat) (task b k .mptr ≡ 0)  -- R6
   pub runner : has (task b (firstWith (ready b) order) .stat) MHBS ≡ false  -- R7

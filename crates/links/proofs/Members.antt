@@ -56,21 +56,28 @@ in-isIn x (y ∷ q) i = step (eqb y x) refl i (in-isIn x q)
 
 -- ---- in one list after another
 -- in the front
-pub in-left : (x : ℕ) (a b : List ℕ) → In x a → In x (a ++ b)
+pub in-left : {A : Type 0} (x : A) (a b : List A) → In x a → In x (a ++ b)
 in-left x [] b i = absurd i
 in-left x (y ∷ a) b (inl e) = inl e
 in-left x (y ∷ a) b (inr i) = inr (in-left x a b i)
 
 -- in the back
-pub in-right : (x : ℕ) (a b : List ℕ) → In x b → In x (a ++ b)
+pub in-right : {A : Type 0} (x : A) (a b : List A) → In x b → In x (a ++ b)
 in-right x [] b i = i
 in-right x (y ∷ a) b i = inr (in-right x a b i)
 
 -- in the front or in the back
-pub in-cases : (x : ℕ) (a b : List ℕ) → In x (a ++ b) → In x a ⊎ In x b
+pub in-cases : {A : Type 0} (x : A) (a b : List A) → In x (a ++ b) → In x a ⊎ In x b
 in-cases x [] b i = inr i
 in-cases x (y ∷ a) b (inl e) = inl (inl e)
 in-cases x (y ∷ a) b (inr i) = ⊎-elim (λ l. inl (inr l)) (λ r. inr r) (in-cases x a b i)
+
+-- with one more at the end: the old ones and the new one
+pub in-add : {A : Type 0} (x e : A) (a : List A) → In x (a ++ (e ∷ [])) ↔ (In x a ⊎ (x ≡ e))
+in-add x e a = (
+  (λ i. ⊎-elim (λ l. inl l) (λ r. ⊎-elim (λ d. inr d) (λ n. absurd n) r) (in-cases x a (e ∷ []) i)),
+  ⊎-elim (in-left x a (e ∷ [])) (λ d. in-right x a (e ∷ []) (inl d)),
+)
 
 -- out of both, so out of the front
 pub out-left : (x : ℕ) (a b : List ℕ) → Out x (a ++ b) → Out x a
@@ -108,10 +115,10 @@ in-split x (y ∷ q) i = step (ℕ-discrete x y) i (in-split x q)
         record { front = y ∷ r .front; back = r .back; whole = ap (λ (l : List ℕ). y ∷ l) (r .whole); fresh = (h, r .fresh) }
 
 -- the same members, whether it stands in the middle or first
-pub in-middle : (y m : ℕ) (a b : List ℕ) → In y (a ++ m ∷ b) ↔ In y (m ∷ (a ++ b))
-in-middle y m a b = (there a, back)
+pub in-middle : {A : Type 0} (y m : A) (a b : List A) → In y (a ++ m ∷ b) ↔ In y (m ∷ (a ++ b))
+in-middle {A} y m a b = (there a, back)
   where
-    there : (a : List ℕ) → In y (a ++ m ∷ b) → In y (m ∷ (a ++ b))
+    there : (a : List A) → In y (a ++ m ∷ b) → In y (m ∷ (a ++ b))
     there [] i = i
     there (x ∷ a) (inl e) = inr (inl e)
     there (x ∷ a) (inr i) = ⊎-elim (λ e. inl e) (λ r. inr (inr r)) (there a i)
@@ -121,7 +128,7 @@ in-middle y m a b = (there a, back)
     back (inr i) = ⊎-elim (λ l. in-left y a (m ∷ b) l) (λ r. in-right y a (m ∷ b) (inr r)) (in-cases y a b i)
 
 -- a member other than the one in the middle stays when that one goes
-pub in-but : (y m : ℕ) (a b : List ℕ) → In y (a ++ m ∷ b) → y ≢ m → In y (a ++ b)
+pub in-but : {A : Type 0} (y m : A) (a b : List A) → In y (a ++ m ∷ b) → y ≢ m → In y (a ++ b)
 in-but y m a b i h = ⊎-elim (λ e. absurd (h e)) (λ r. r) (in-middle y m a b .0 i)
 
 -- no repeats, with one more in the middle

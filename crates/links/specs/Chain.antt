@@ -1,5 +1,6 @@
 -- Chains of links and members of lists, as statements. A reader who follows a promise down to the links must believe this file.
---   In x q, Out x q     x stands in q, x stands nowhere in q
+--   In x q              x stands in q, a list of anything
+--   Out x q             the number x stands nowhere in q
 --   Once q              no number stands twice in q
 --   All P q             P holds of each number of q
 --   Sorted number q     of any two the earlier has no greater priority number
@@ -10,7 +11,7 @@ use mathlib.Core.Logic.{_≢_, _⊎_}
 use mathlib.Core.List.{List, [], _∷_}
 use Prim.Native.Nat.{ℕ, _≤_}
 
-abbrev pub In : ℕ → List ℕ → Type 0
+abbrev pub In : {A : Type 0} → A → List A → Type 0
 In x [] = ⊥
 In x (y ∷ q) = (x ≡ y) ⊎ In x q
 

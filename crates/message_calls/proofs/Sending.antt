@@ -25,7 +25,7 @@ use Rattle.paper.specs.declared.call.Call.the-variants.{Send}
 use Rattle.paper.specs.declared.answer.Refusal.the-variants.{NoSuchTask, BadPriority}
 use Rattle.paper.specs.Rules.{running}
 use Rattle.paper.specs.Effects.{ownPrio}
-use Rattle.paper.specs.Refusals.{no3, no4, no5, no6, no7, Verdict, Go, Stop, own, lowest}
+use Rattle.paper.specs.Refusals.{no3, no4, no5, no6, no7, Verdict, Go, Stop, ownRow, lowest}
 use Rattle.inner.specs.declared.step.Held.{Held}
 use Rattle.inner.specs.declared.step.Held.the-variants as held
 use Rattle.inner.specs.declared.step.Placed.{Placed}
@@ -111,7 +111,7 @@ module _ (z : Size) (l : List ℕ) (c : TaskNo) (m w : ℕ) (meant : TaskMeant) 
 -- a call whose row ends with 6 and 7 and whose body places m at the task to m, the message held and passed on to w
 pub passes-on : (z : Size) (l : List ℕ) (call : Call) (m : ℕ) (to : ℕ → ℕ)
     → (let b = boardOf z l in let c = running z b in
-    own z b c call ≡ no3 c ∷ no4 z m ∷ no5 b c m ∷ no6 z b (to m) ∷ no7 b m ∷ [])
+    ownRow z b c call ≡ no3 c ∷ no4 z m ∷ no5 b c m ∷ no6 z b (to m) ∷ no7 b m ∷ [])
     → bodyIn z l (running z (boardOf z l)) call .after ≡ placeAtIn z l m (to m) → (h : Held)
     → h ≡ heldOf z (boardOf z l) (running z (boardOf z l)) m → (k : TaskNo) (one : MsgNo) → h ≡ held.By k one
     → (x : Placed) (d : List ℕ) (w : ℕ) → Makes x d (passing z l (k .0) (one .0) w) → w ≡ to (one .0)

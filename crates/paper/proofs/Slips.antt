@@ -14,8 +14,8 @@ use Rattle.paper.specs.declared.answer.Answer.{Answer}
 use Rattle.paper.specs.declared.answer.Answer.the-variants.{Accepted, Refused}
 use Rattle.paper.specs.declared.answer.Refusal.the-variants.{RuleBroken, NoSuchMessage, NotHeld, NoSuchTask, BadPriority, NotInstallable, BadSender}
 use Rattle.paper.specs.Rules.{queue, order}
-use Rattle.paper.specs.Step.{Outcome, blank, check}
-use Rattle.paper.specs.History.{Past, run}
+use Rattle.paper.specs.Outcomes.{Outcome, blank, check}
+use Rattle.paper.specs.History.{Ran, run}
 
 abbrev tiny : Size
 tiny = record { tasks = 3; messages = 4 }

@@ -1,13 +1,15 @@
 -- The claims of specs/Claims, proved. Assumes nothing.
 use mathlib.Core.Path.{_≡_, refl, sym, ap, _∙_, subst}
 use mathlib.Core.Logic.{inl, inr}
-use mathlib.Core.Bool.{Bool, true, false, cond, true≢false}
+use mathlib.Core.Bool.{Bool, true, false, cond, _&&_, true≢false}
 use mathlib.Core.List.{List, [], _∷_}
 use Prim.Native.Nat.{ℕ, _-_, _≤_, _<_}
 use native.Mathlib.Omega.{arith}
 use lib.ListN.{getD}
 use lib.Dec.{eqb, ltb}
 use borrow.Author.Tests.{ltb-true}
+use Rattle.links.specs.Chain.{In}
+use Rattle.links.proofs.Bools.{both}
 use Rattle.board.specs.declared.numbers.Size.{Size}
 use Rattle.board.specs.declared.status.Status.{Status}
 use Rattle.board.specs.declared.records.Task.{Task}
@@ -22,8 +24,8 @@ use Rattle.paper.specs.declared.answer.Answer.the-variants.{Accepted, Re
 use Rattle.paper.specs.Answers.{numberOf, Handed, handed}
 use Rattle.paper.specs.Rules.{emptyQueue, running}
 use Rattle.paper.specs.Refusals.{Test, no1, no2, row, Verdict, Go, Stop, lowest}
-use Rattle.paper.specs.Step.{Outcome, Ends, Done, accepted, refused, judge, deliver, dispatchTo, dispatch, body, blank}
-use Rattle.paper.specs.Claims.{NoSecondOutcome, Unchanged, RefusalChangesNothing, Stands, Given, LowestIsGiven, HandedTells, FreshInstallAccepted, AnswersDiffer, InstallWrites}
+use Rattle.paper.specs.Outcomes.{Outcome, Ends, Undispatched, accepted, refused, judge, deliver, dispatchTo, dispatch, body, blank}
+use Rattle.paper.specs.Claims.{NoSecondOutcome, Unchanged, RefusalChangesNothing, Given, LowestIsGiven, HandedTells, FreshInstallAccepted, AnswersDiffer, InstallWrites}
 
 pub no-second-outcome : NoSecondOutcome
 no-second-outcome o a e l m h i = (h .answers ∙ sym (i .answers), h .leaves ∙ sym (i .leaves))
@@ -40,11 +42,11 @@ unchanged-judge : (l : List ℕ) (v : Verdict) (o : Outcome) → Unchanged l o �
 unchanged-judge l Go o h = h
 unchanged-judge l (Stop q) o h = λ k e. refl
 
-unchanged-deliver : (z : Size) (l : List ℕ) (d : Done) (c : ℕ) → Unchanged l (deliver z l d c)
+unchanged-deliver : (z : Size) (l : List ℕ) (d : Undispatched) (c : ℕ) → Unchanged l (deliver z l d c)
 unchanged-deliver z l d c =
     unchanged-cond (emptyQueue (d .board) c) l (refused l NothingToDeliver) _ (λ k e. refl) (unchanged-accepted _ _ _ l _)
 
-unchanged-dispatch : (z : Size) (l : List ℕ) (d : Done) (c : ℕ) → Unchanged l (dispatchTo z l d c)
+unchanged-dispatch : (z : Size) (l : List ℕ) (d : Undispatched) (c : ℕ) → Unchanged l (dispatchTo z l d c)
 unchanged-dispatch z l d c =
     unchanged-cond (has (task (d .board) c .stat) MHBS) l (deliver z l d c) (accepted (d .value) c 0 (bytesOf (d .board)))
     (unchanged-deliver z l d c) (unchanged-accepted (d .value) c 0 l (bytesOf (d .board)))
@@ -59,18 +61,26 @@ refusal-changes-nothing z l = let b = boardOf z l in let c = running z b in (
 
 -- ---- the lowest is given
 -- the numbers of the tests ascend from above n, and stay below 15
-abbrev Ascend : ℕ → List Test → Type 0
-Ascend n [] = ltb n 15 ≡ true
-Ascend n (t ∷ tests) = (ltb n (numberOf (t .refusal)) ≡ true) × Ascend (numberOf (t .refusal)) tests
+abbrev ascends : ℕ → List Test → Bool
+ascends n [] = ltb n 15
+ascends n (t ∷ tests) = ltb n (numberOf (t .refusal)) && ascends (numberOf (t .refusal)) tests
 
-stands-above : (n : ℕ) (tests : List Test) → Ascend n tests → (t : Test) → Stands t tests → n ≤ numberOf (t .refusal)
-stands-above n [] h t i = absurd i
-stands-above n (s ∷ tests) h t (inl e) = let k = ltb-true n _ (h .0) in let q = ap (λ (x : Test). numberOf (x .refusal)) e in omega arith
-stands-above n (s ∷ tests) h t (inr i) = let k = ltb-true n _ (h .0) in let q = stands-above _ tests (h .1) t i in omega arith
+-- so the first is above n, and the others ascend from it
+ascends-on : (n : ℕ) (t : Test) (tests : List Test) → ascends n (t ∷ tests) ≡ true
+    → (n < numberOf (t .refusal)) × (ascends (numberOf (t .refusal)) tests ≡ true)
+ascends-on n t tests h =
+    let r = both (ltb n (numberOf (t .refusal))) (ascends (numberOf (t .refusal)) tests) h in (ltb-true n _ (r .0), r .1)
 
-given-lowest : (n : ℕ) (tests : List Test) → Ascend n tests → Given (lowest tests) tests
+in-above : (n : ℕ) (tests : List Test) → ascends n tests ≡ true → (t : Test) → In t tests → n ≤ numberOf (t .refusal)
+in-above n [] h t i = absurd i
+in-above n (s ∷ tests) h t (inl e) =
+    let k = ascends-on n s tests h .0 in let q = ap (λ (x : Test). numberOf (x .refusal)) e in omega arith
+in-above n (s ∷ tests) h t (inr i) =
+    let k = ascends-on n s tests h in let q = in-above _ tests (k .1) t i in omega (arith, k .0)
+
+given-lowest : (n : ℕ) (tests : List Test) → ascends n tests ≡ true → Given (lowest tests) tests
 given-lowest n [] h = λ t i. absurd i
-given-lowest n (s ∷ tests) h = go (s .applies) refl (given-lowest _ tests (h .1))
+given-lowest n (s ∷ tests) h = go (s .applies) refl (given-lowest _ tests (ascends-on n s tests h .1))
   where
     goes : s .applies ≡ false → Given Go tests → Given Go (s ∷ tests)
     goes e g t (inl q) = ap (λ (x : Test). x .applies) q ∙ e
@@ -86,7 +96,7 @@ given-lowest n (s ∷ tests) h = go (s .applies) refl (given-lowest _ tests (h .
 
     first : Given (Stop (s .refusal)) (s ∷ tests)
     first t (inl q) a = let p = ap (λ (x : Test). numberOf (x .refusal)) q in omega arith
-    first t (inr i) a = stands-above (numberOf (s .refusal)) tests (h .1) t i
+    first t (inr i) a = in-above (numberOf (s .refusal)) tests (ascends-on n s tests h .1) t i
 
     go : (v : Bool) → s .applies ≡ v → Given (lowest tests) tests
         → Given (elim v [ true ↦ Stop (s .refusal) | false ↦ lowest tests ]) (s ∷ tests)
@@ -94,39 +104,39 @@ given-lowest n (s ∷ tests) h = go (s .applies) refl (given-lowest _ tests (h .
     go false e g = behind (lowest tests) e g
 
 -- every row of the table of calls ascends
-row-ascends : (z : Size) (l : List ℕ) (b : Board) (c : ℕ) (call : Call) → Ascend 0 (row z l b c call)
-row-ascends z l b c (Install k s p sptr name) = (refl, (refl, (refl, (refl, (refl, refl)))))
-row-ascends z l b c (PostInterrupt k) = (refl, (refl, (refl, refl)))
-row-ascends z l b c (Find name) = (refl, (refl, refl))
-row-ascends z l b c (CancelTask k) = (refl, (refl, (refl, (refl, (refl, refl)))))
-row-ascends z l b c Claim = (refl, (refl, (refl, (refl, refl))))
-row-ascends z l b c (Prepare m s p sptr) = (refl, (refl, (refl, (refl, (refl, (refl, refl))))))
-row-ascends z l b c (Release m) = (refl, (refl, (refl, (refl, (refl, refl)))))
-row-ascends z l b c (Send m r) = (refl, (refl, (refl, (refl, (refl, (refl, refl))))))
-row-ascends z l b c (SendAndWait m r) = (refl, (refl, (refl, (refl, (refl, (refl, refl))))))
-row-ascends z l b c (Resend m) = (refl, (refl, (refl, (refl, (refl, (refl, (refl, refl)))))))
-row-ascends z l b c (ResendAndWait m) = (refl, (refl, (refl, (refl, (refl, (refl, (refl, refl)))))))
-row-ascends z l b c (Forward m r) = (refl, (refl, (refl, (refl, (refl, (refl, (refl, refl)))))))
-row-ascends z l b c (ForwardAndWait m r) = (refl, (refl, (refl, (refl, (refl, (refl, (refl, refl)))))))
-row-ascends z l b c (Return m) = (refl, (refl, (refl, (refl, (refl, (refl, (refl, refl)))))))
-row-ascends z l b c (ReturnAndWait m) = (refl, (refl, (refl, (refl, (refl, (refl, (refl, refl)))))))
-row-ascends z l b c Receive = (refl, (refl, (refl, refl)))
-row-ascends z l b c ReceiveAndWait = (refl, (refl, (refl, refl)))
-row-ascends z l b c (CancelMessage m r) = (refl, (refl, (refl, (refl, (refl, (refl, (refl, refl)))))))
-row-ascends z l b c WaitForInterrupt = (refl, (refl, (refl, refl)))
+row-ascends : (z : Size) (l : List ℕ) (b : Board) (c : ℕ) (call : Call) → ascends 0 (row z l b c call) ≡ true
+row-ascends z l b c (Install k s p sptr name) = refl
+row-ascends z l b c (PostInterrupt k) = refl
+row-ascends z l b c (Find name) = refl
+row-ascends z l b c (CancelTask k) = refl
+row-ascends z l b c Claim = refl
+row-ascends z l b c (Prepare m s p sptr) = refl
+row-ascends z l b c (Release m) = refl
+row-ascends z l b c (Send m r) = refl
+row-ascends z l b c (SendAndWait m r) = refl
+row-ascends z l b c (Resend m) = refl
+row-ascends z l b c (ResendAndWait m) = refl
+row-ascends z l b c (Forward m r) = refl
+row-ascends z l b c (ForwardAndWait m r) = refl
+row-ascends z l b c (Return m) = refl
+row-ascends z l b c (ReturnAndWait m) = refl
+row-ascends z l b c Receive = refl
+row-ascends z l b c ReceiveAndWait = refl
+row-ascends z l b c (CancelMessage m r) = refl
+row-ascends z l b c WaitForInterrupt = refl
 
 -- ---- no row gives 15
-ascend-below : (n : ℕ) (tests : List Test) → Ascend n tests → n < 15
+ascend-below : (n : ℕ) (tests : List Test) → ascends n tests ≡ true → n < 15
 ascend-below n [] h = ltb-true n 15 h
-ascend-below n (t ∷ tests) h = let k = ltb-true n _ (h .0) in let q = ascend-below _ tests (h .1) in omega arith
+ascend-below n (t ∷ tests) h = let k = ascends-on n t tests h in let q = ascend-below _ tests (k .1) in omega (arith, k .0)
 
-stop-below : (n : ℕ) (tests : List Test) → Ascend n tests → (q : Refusal) → lowest tests ≡ Stop q → numberOf q < 15
+stop-below : (n : ℕ) (tests : List Test) → ascends n tests ≡ true → (q : Refusal) → lowest tests ≡ Stop q → numberOf q < 15
 stop-below n [] h q = λ e. let z : _≡_ {A = ℕ} 0 1 = cc in absurd (omega arith)
-stop-below n (t ∷ tests) h q = go (t .applies) (stop-below _ tests (h .1) q)
+stop-below n (t ∷ tests) h q = go (t .applies) (stop-below _ tests (ascends-on n t tests h .1) q)
   where
     go : (v : Bool) → (lowest tests ≡ Stop q → numberOf q < 15)
         → elim v [ true ↦ Stop (t .refusal) | false ↦ lowest tests ] ≡ Stop q → numberOf q < 15
-    go true ih e = let p : t .refusal ≡ q = cc in subst (λ (r : Refusal). numberOf r < 15) p (ascend-below _ tests (h .1))
+    go true ih e = let p : t .refusal ≡ q = cc in subst (λ (r : Refusal). numberOf r < 15) p (ascend-below _ tests (ascends-on n t tests h .1))
     go false ih e = ih e
 
 pub row-below : (z : Size) (l : List ℕ) (b : Board) (c : ℕ) (call : Call) (q : Refusal) → lowest (row z l b c call) ≡ Stop q

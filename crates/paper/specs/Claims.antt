@@ -7,10 +7,11 @@
 --   FreshInstallAccepted, AnswersDiffer, InstallWrites   the definitions refuse not all, answer not always the same, and do write
 -- Assumes nothing.
 use mathlib.Core.Path.{_≡_}
-use mathlib.Core.Logic.{_≢_, _⊎_}
+use mathlib.Core.Logic.{_≢_}
 use mathlib.Core.Bool.{Bool, true, false}
-use mathlib.Core.List.{List, [], _∷_}
+use mathlib.Core.List.{List}
 use Prim.Native.Nat.{ℕ, _≤_}
+use Rattle.links.specs.Chain.{In}
 use Rattle.board.specs.declared.numbers.Size.{Size}
 use Rattle.board.specs.Numbers.{small}
 use Rattle.board.specs.Board.{Board}
@@ -21,7 +22,7 @@ use Rattle.paper.specs.declared.answer.Answer.{Answer}
 use Rattle.paper.specs.declared.answer.Answer.the-variants.{Accepted, Refused}
 use Rattle.paper.specs.Answers.{numberOf, handed}
 use Rattle.paper.specs.Refusals.{Test, row, Verdict, Go, Stop, lowest}
-use Rattle.paper.specs.Step.{Outcome, Ends, effect, fresh, check, blank}
+use Rattle.paper.specs.Outcomes.{Outcome, Ends, effect, fresh, check, blank}
 
 abbrev pub NoSecondOutcome : Type 0
 NoSecondOutcome = (o : Outcome) (a e : Answer) (l m : List ℕ) → Ends a l o → Ends e m o → (a ≡ e) × (l ≡ m)
@@ -35,13 +36,9 @@ RefusalChangesNothing =
     (z : Size) (l : List ℕ) → ((call : Call) → Unchanged l (effect z l call)) × Unchanged l (check z l) × Unchanged l (fresh z l)
 
 -- ---- the lowest is given
-abbrev pub Stands : Test → List Test → Type 0
-Stands t [] = ⊥
-Stands t (s ∷ tests) = (t ≡ s) ⊎ Stands t tests
-
 abbrev pub Given : Verdict → List Test → Type 0
-Given Go tests = (t : Test) → Stands t tests → t .applies ≡ false
-Given (Stop q) tests = (t : Test) → Stands t tests → t .applies ≡ true → numberOf q ≤ numberOf (t .refusal)
+Given Go tests = (t : Test) → In t tests → t .applies ≡ false
+Given (Stop q) tests = (t : Test) → In t tests → t .applies ≡ true → numberOf q ≤ numberOf (t .refusal)
 
 abbrev pub LowestIsGiven : Type 0
 LowestIsGiven = (z : Size) (l : List ℕ) (b : Board) (c : ℕ) (call : Call) → Given (lowest (row z l b c call)) (row z l b c call)

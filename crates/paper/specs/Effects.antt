@@ -38,8 +38,8 @@ abbrev pub ownPrio : ℕ → ℕ → ℕ
 ownPrio p own = cond (eqb (number p) 127) (2 * number own + p % 2) p
 
 abbrev pub addressed : Board → ℕ → ℕ → ℕ → Board
-addressed b c m r = let t = message b m in
-    withMessage b m (withSptr (withRptr (withPrio t (ownPrio (t .prio) (task b c .prio))) r) (cond (eqb (t .sptr) 0) c (t .sptr)))
+addressed b c m r = let u = message b m in
+    withMessage b m (withSptr (withRptr (withPrio u (ownPrio (u .prio) (task b c .prio))) r) (cond (eqb (u .sptr) 0) c (u .sptr)))
 
 abbrev pub send : Size → Board → ℕ → ℕ → ℕ → Board
 send z b c m r = placeAt z (addressed b c m r) m r

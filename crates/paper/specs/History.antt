@@ -6,13 +6,13 @@ use Prim.Native.Nat.{ℕ}
 use Rattle.board.specs.declared.numbers.Size.{Size}
 use Rattle.paper.specs.declared.call.Call.{Call}
 use Rattle.paper.specs.declared.answer.Answer.{Answer}
-use Rattle.paper.specs.Step.{Outcome, effect}
+use Rattle.paper.specs.Outcomes.{Outcome, effect}
 
-pub record Past : Type 0 where
+pub record Ran : Type 0 where
   pub answers : List Answer
   pub after : List ℕ
 
-abbrev pub run : Size → List ℕ → List Call → Past
+abbrev pub run : Size → List ℕ → List Call → Ran
 run z l [] = record { answers = []; after = l }
 run z l (call ∷ calls) = let o = effect z l call in let p = run z (o .after) calls in
     record { answers = o .answer ∷ p .answers; after = p .after }

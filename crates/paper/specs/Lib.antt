@@ -3,6 +3,6 @@ pub mod Rules
 pub mod Changes
 pub mod Effects
 pub mod Refusals
-pub mod Step
+pub mod Outcomes
 pub mod History
 pub mod Claims

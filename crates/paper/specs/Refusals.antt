@@ -86,29 +86,29 @@ abbrev pub no14 : Size → ℕ → Test
 no14 z sptr = test BadSender (ltb (z .tasks) sptr)
 
 -- ---- refusals it can give, below 1 and 2; the task meant is k or r, RPTR of m on resend, SPTR of m on return
-abbrev pub own : Size → Board → ℕ → Call → List Test
-own z b c (Install k s p sptr name) = no7Install p ∷ no8 z b k ∷ no9 s ∷ []
-own z b c (PostInterrupt k) = no6 z b k ∷ []
-own z b c (Find name) = []
-own z b c (CancelTask k) = no3 c ∷ no6 z b k ∷ no10 b k ∷ []
-own z b c Claim = no3 c ∷ no11 b ∷ []
-own z b c (Prepare m s p sptr) = no3 c ∷ no4 z m ∷ no5 b c m ∷ no14 z sptr ∷ []
-own z b c (Release m) = no3 c ∷ no4 z m ∷ no5 b c m ∷ []
-own z b c (Send m r) = no3 c ∷ no4 z m ∷ no5 b c m ∷ no6 z b r ∷ []
-own z b c (SendAndWait m r) = no3 c ∷ no4 z m ∷ no5 b c m ∷ no6 z b r ∷ []
-own z b c (Resend m) = no3 c ∷ no4 z m ∷ no5 b c m ∷ no6 z b (message b m .rptr) ∷ no7 b m ∷ []
-own z b c (ResendAndWait m) = no3 c ∷ no4 z m ∷ no5 b c m ∷ no6 z b (message b m .rptr) ∷ no7 b m ∷ []
-own z b c (Forward m r) = no3 c ∷ no4 z m ∷ no5 b c m ∷ no6 z b r ∷ no7 b m ∷ []
-own z b c (ForwardAndWait m r) = no3 c ∷ no4 z m ∷ no5 b c m ∷ no6 z b r ∷ no7 b m ∷ []
-own z b c (Return m) = no3 c ∷ no4 z m ∷ no5 b c m ∷ no6 z b (message b m .sptr) ∷ no7 b m ∷ []
-own z b c (ReturnAndWait m) = no3 c ∷ no4 z m ∷ no5 b c m ∷ no6 z b (message b m .sptr) ∷ no7 b m ∷ []
-own z b c Receive = no3 c ∷ []
-own z b c ReceiveAndWait = no3 c ∷ []
-own z b c (CancelMessage m r) = no3 c ∷ no4 z m ∷ no6 z b r ∷ no12 b m r ∷ no13 b c m ∷ []
-own z b c WaitForInterrupt = no3 c ∷ []
+abbrev pub ownRow : Size → Board → ℕ → Call → List Test
+ownRow z b c (Install k s p sptr name) = no7Install p ∷ no8 z b k ∷ no9 s ∷ []
+ownRow z b c (PostInterrupt k) = no6 z b k ∷ []
+ownRow z b c (Find name) = []
+ownRow z b c (CancelTask k) = no3 c ∷ no6 z b k ∷ no10 b k ∷ []
+ownRow z b c Claim = no3 c ∷ no11 b ∷ []
+ownRow z b c (Prepare m s p sptr) = no3 c ∷ no4 z m ∷ no5 b c m ∷ no14 z sptr ∷ []
+ownRow z b c (Release m) = no3 c ∷ no4 z m ∷ no5 b c m ∷ []
+ownRow z b c (Send m r) = no3 c ∷ no4 z m ∷ no5 b c m ∷ no6 z b r ∷ []
+ownRow z b c (SendAndWait m r) = no3 c ∷ no4 z m ∷ no5 b c m ∷ no6 z b r ∷ []
+ownRow z b c (Resend m) = no3 c ∷ no4 z m ∷ no5 b c m ∷ no6 z b (message b m .rptr) ∷ no7 b m ∷ []
+ownRow z b c (ResendAndWait m) = no3 c ∷ no4 z m ∷ no5 b c m ∷ no6 z b (message b m .rptr) ∷ no7 b m ∷ []
+ownRow z b c (Forward m r) = no3 c ∷ no4 z m ∷ no5 b c m ∷ no6 z b r ∷ no7 b m ∷ []
+ownRow z b c (ForwardAndWait m r) = no3 c ∷ no4 z m ∷ no5 b c m ∷ no6 z b r ∷ no7 b m ∷ []
+ownRow z b c (Return m) = no3 c ∷ no4 z m ∷ no5 b c m ∷ no6 z b (message b m .sptr) ∷ no7 b m ∷ []
+ownRow z b c (ReturnAndWait m) = no3 c ∷ no4 z m ∷ no5 b c m ∷ no6 z b (message b m .sptr) ∷ no7 b m ∷ []
+ownRow z b c Receive = no3 c ∷ []
+ownRow z b c ReceiveAndWait = no3 c ∷ []
+ownRow z b c (CancelMessage m r) = no3 c ∷ no4 z m ∷ no6 z b r ∷ no12 b m r ∷ no13 b c m ∷ []
+ownRow z b c WaitForInterrupt = no3 c ∷ []
 
 abbrev pub row : Size → List ℕ → Board → ℕ → Call → List Test
-row z l b c call = no1 z l ∷ no2 z b ∷ own z b c call
+row z l b c call = no1 z l ∷ no2 z b ∷ ownRow z b c call
 
 -- ---- if several apply, the lowest is given
 pub data Verdict : Type 0 where

@@ -90,17 +90,17 @@ rule3 z b = lists (nextTask b) (taskNumber b) (z .messages) (b .first) (which is
 
 -- ---- R4: a message and its place
 abbrev pub zeroMessage : Message → Bool
-zeroMessage r = eqb (r .stat) 0 && eqb (r .prio) 0 && eqb (r .link) 0 && eqb (r .rptr) 0 && eqb (r .sptr) 0
+zeroMessage u = eqb (u .stat) 0 && eqb (u .prio) 0 && eqb (u .link) 0 && eqb (u .rptr) 0 && eqb (u .sptr) 0
 
 -- RPTR and SPTR are task numbers or 0, of tasks that may be absent
 abbrev pub goodPointers : Size → Message → Bool
-goodPointers z r = leb (r .rptr) (z .tasks) && leb (r .sptr) (z .tasks)
+goodPointers z u = leb (u .rptr) (z .tasks) && leb (u .sptr) (z .tasks)
 
 abbrev pub goodMessage : Size → (ℕ → Bool) → Message → Place → Bool
-goodMessage z there r Free = zeroMessage r
-goodMessage z there r (HeldBy k) = goodPointers z r && eqb (r .link) 0 && there (k .0)
-goodMessage z there r (QueuedAt k) = goodPointers z r && fifo (r .prio) && ltb (r .prio) 0xFF && there (k .0)
-goodMessage z there r (Nowhere p) = false
+goodMessage z there u Free = zeroMessage u
+goodMessage z there u (HeldBy k) = goodPointers z u && eqb (u .link) 0 && there (k .0)
+goodMessage z there u (QueuedAt k) = goodPointers z u && fifo (u .prio) && ltb (u .prio) 0xFF && there (k .0)
+goodMessage z there u (Nowhere p) = false
 
 abbrev pub rule4At : Size → Board → ℕ → Bool
 rule4At z b m = goodMessage z (present b) (message b m) (place b m)

@@ -8,8 +8,8 @@ use Rattle.board.specs.Numbers.{small}
 use Rattle.paper.specs.declared.call.Call.{Call}
 use Rattle.paper.specs.declared.call.Call.the-variants.{Claim, Release, Receive, ReceiveAndWait}
 use Rattle.paper.specs.Answers.{Handed, handed}
-use Rattle.paper.specs.Step.{blank}
-use Rattle.paper.specs.History.{Past, run}
+use Rattle.paper.specs.Outcomes.{blank}
+use Rattle.paper.specs.History.{Ran, run}
 use Rattle.starred.specs.Table.{Row, Look, Nothing, Report, Holds, Starred, accepts, refuses, lone, claimed, freshInstall, fourSent, installed, alone, sentToItself, twoPosts, allClaimed, forwarded, sent}
 use Rattle.starred.proofs.Claims.{bytes, spread, claims-run}
 

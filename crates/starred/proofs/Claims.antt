@@ -26,8 +26,8 @@ use Rattle.paper.specs.Answers.{Handed, handed}
 use Rattle.paper.specs.Rules.{present, running, nextMessage, messageNumber, goodMessage, rule4At, rule5At, passes}
 use Rattle.paper.specs.Effects.{lowestFree}
 use Rattle.paper.specs.Refusals.{no3, test, lowest}
-use Rattle.paper.specs.Step.{Outcome, accepted, done, dispatch, judge, called, effect}
-use Rattle.paper.specs.History.{Past, run}
+use Rattle.paper.specs.Outcomes.{Outcome, accepted, undispatched, dispatch, judge, called, effect}
+use Rattle.paper.specs.History.{Ran, run}
 use Rattle.starred.specs.Table.{accepts, claimed}
 
 -- ---- the boards
@@ -158,7 +158,7 @@ right-length ps n =
 abbrev claimed-by : List Place → Bool → Bool → Bool → ℕ → Outcome
 claimed-by ps t u w m =
     judge (bytes ps) (lowest (test WrongLength (not t) ∷ test RuleBroken (not u) ∷ no3 1 ∷ test NoneFree w ∷ []))
-    (dispatch small (bytes ps) (done m (withPlace (lone ps) m held)))
+    (dispatch small (bytes ps) (undispatched m (withPlace (lone ps) m held)))
 
 claim-gives : (ps : List Place) (i : ℕ) → length ps ≡ 128 → Few ps → lowestFree (lone ps) ≡ suc i
     → effect small (bytes ps) Claim ≡ accepted (suc i) 1 0 (bytes (set ps i held))

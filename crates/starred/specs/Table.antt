@@ -14,8 +14,8 @@ use Rattle.paper.specs.declared.call.Call.{Call}
 use Rattle.paper.specs.declared.call.Call.the-variants.{Install, PostInterrupt, Claim, Prepare, Release, Send, SendAndWait, Forward, Receive, ReceiveAndWait, WaitForInterrupt}
 use Rattle.paper.specs.Answers.{Handed, handed}
 use Rattle.paper.specs.Rules.{queue}
-use Rattle.paper.specs.Step.{blank}
-use Rattle.paper.specs.History.{Past, run}
+use Rattle.paper.specs.Outcomes.{blank}
+use Rattle.paper.specs.History.{Ran, run}
 
 -- ---- what a row says
 -- what is seen: nothing is asked, all bytes, or the queue of a task and the PRIO bytes in queue order
@@ -40,7 +40,7 @@ pub record Report : Type 0 where
   pub answers : List Handed
   pub seen : Look
 
-abbrev pub report : Past → Look → Report
+abbrev pub report : Ran → Look → Report
 report p s = record { answers = map handed (p .answers); seen = look (p .after) s }
 
 abbrev pub Holds : Row → Type 0

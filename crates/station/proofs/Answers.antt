@@ -21,7 +21,7 @@ use Rattle.paper.specs.declared.answer.Answer.the-variants.{Accepted, Refused}
 use Rattle.paper.specs.declared.answer.Refusal.the-variants.{WrongLength, RuleBroken}
 use Rattle.paper.specs.Rules.{running, passes}
 use Rattle.paper.specs.Refusals.{test, lowest}
-use Rattle.paper.specs.Step.{Outcome, Ends, accepted, judge, blank, fresh, check}
+use Rattle.paper.specs.Outcomes.{Outcome, Ends, accepted, judge, blank, fresh, check}
 use Rattle.kept.proofs.Reading.{present-numbered, runner-says}
 use Rattle.station.specs.Meant.{numberMeant}
 

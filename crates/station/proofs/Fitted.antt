@@ -7,7 +7,7 @@ use Rattle.paper.proofs.call.Call.{the-type}
 use Rattle.paper.proofs.call.Call.Laws.{the-laws}
 use Rattle.paper.specs.declared.call.Call.{Call}
 use Rattle.paper.specs.declared.call.Call.the-variants.{Install, PostInterrupt, Find, CancelTask, Claim, Prepare, Release, Send, SendAndWait, Resend, ResendAndWait, Forward, ForwardAndWait, Return, ReturnAndWait, Receive, ReceiveAndWait, CancelMessage, WaitForInterrupt}
-use Rattle.kept.specs.Stands.{Fitting}
+use Rattle.kept.specs.Settled.{Fitting}
 
 pub fitted : (call : Call) → Is (row the-type) call (val the-type the-laws call ∷ []) → Fitting call
 fitted (Install k s p sptr name) g = let f = g .1 .1 .1 .1 in (f .0 .1, f .1 .0 .1, f .1 .1 .0 .1, f .1 .1 .1 .0 .1, f .1 .1 .1 .1 .0 .1)

@@ -14,9 +14,9 @@ use Rattle.paper.specs.declared.answer.Answer.{Answer}
 use Rattle.paper.specs.declared.answer.Answer.the-variants.{Refused}
 use Rattle.paper.specs.declared.answer.Refusal.the-variants.{WrongLength, RuleBroken}
 use Rattle.paper.specs.Rules.{running, passes}
-use Rattle.paper.specs.Refusals.{no1, no2, own, Verdict, Stop}
-use Rattle.paper.specs.Step.{Outcome, Ends, judge, body, dispatch, effect}
-use Rattle.kept.specs.Stands.{Fitting}
+use Rattle.paper.specs.Refusals.{no1, no2, ownRow, Verdict, Stop}
+use Rattle.paper.specs.Outcomes.{Outcome, Ends, judge, body, dispatch, effect}
+use Rattle.kept.specs.Settled.{Fitting}
 use Rattle.kept.specs.Claims.{Bytes}
 use Rattle.kept.proofs.Theorems.{small-sizes}
 use Rattle.inner.specs.Stores.{calledIn}
@@ -36,15 +36,15 @@ module _ (l : List ℕ) (call : Call) where
   step-length h =
       ends _ l (effect small l call)
       (ap (λ (v : Verdict). judge l v (dispatch small l (body small b c call)))
-      (lowest-stop (no1 small l) (no2 small b ∷ own small b c call) (ap not h)))
+      (lowest-stop (no1 small l) (no2 small b ∷ ownRow small b c call) (ap not h)))
 
   -- 2
   pub step-broken : eqb (length l) 1476 ≡ true → passes small b ≡ false → Ends (Refused RuleBroken) l (effect small l call)
   step-broken e p =
       ends _ l (effect small l call)
       (ap (λ (v : Verdict). judge l v (dispatch small l (body small b c call)))
-      (lowest-on (no1 small l) (no2 small b ∷ own small b c call) (ap not e)
-      ∙ lowest-stop (no2 small b) (own small b c call) (ap not p)))
+      (lowest-on (no1 small l) (no2 small b ∷ ownRow small b c call) (ap not e)
+      ∙ lowest-stop (no2 small b) (ownRow small b c call) (ap not p)))
 
   -- the call was made
   pub step-made : (a : Answer) (d : List ℕ) → eqb (length l) 1476 ≡ true → ((i : ℕ) → getD l i 0 < 256) → ((i : ℕ) → getD d i 0 < 256) → Fitting call

@@ -6,7 +6,7 @@ use Rattle.board.specs.Numbers.{small}
 use Rattle.paper.specs.declared.answer.Answer.{Answer}
 use Rattle.paper.specs.declared.call.Call.{Call}
 use Rattle.paper.specs.Answers.{handed}
-use Rattle.paper.specs.Step.{Ends, effect}
+use Rattle.paper.specs.Outcomes.{Ends, effect}
 use Rattle.station.specs.declared.asked.Asked.{Asked}
 use Rattle.station.specs.declared.asked.Asked.the-variants.{Made, NoCall}
 use Rattle.station.specs.Packed.{packed}

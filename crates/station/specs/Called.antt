@@ -6,7 +6,7 @@ use mathlib.Core.List.{List}
 use Prim.Native.Nat.{ℕ}
 use Rattle.board.specs.Numbers.{small}
 use Rattle.paper.specs.Answers.{handed}
-use Rattle.paper.specs.Step.{effect}
+use Rattle.paper.specs.Outcomes.{effect}
 use Rattle.station.specs.declared.asked.Asked.{Asked}
 use Rattle.station.specs.declared.asked.Asked.the-variants.{Made, NoCall}
 use Rattle.station.specs.Packed.{packed}

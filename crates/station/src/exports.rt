@@ -2,7 +2,7 @@
 ghost use mathlib.Core.Path.{_≡_};
 ghost use Rattle.board.specs.Numbers.{small};
 ghost use Rattle.paper.specs.Answers.{handed};
-ghost use Rattle.paper.specs.Step.{Outcome, fresh, check};
+ghost use Rattle.paper.specs.Outcomes.{Outcome, fresh, check};
 ghost use Rattle.station.specs.Packed.{packed};
 ghost use Rattle.station.specs.Asked.{askedOf};
 ghost use Rattle.station.specs.Called.{wordFor, leftFor};

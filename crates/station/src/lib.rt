@@ -11,7 +11,7 @@ ghost use lib.ListN.{length};
 ghost use lib.Dec.{eqb};
 ghost use Rattle.board.specs.Board.{total, boardOf};
 ghost use Rattle.paper.specs.Rules.{passes};
-ghost use Rattle.paper.specs.Step.{Ends, effect, fresh, check};
+ghost use Rattle.paper.specs.Outcomes.{Ends, effect, fresh, check};
 ghost use Rattle.station.specs.Meant.{numberMeant};
 use board::numbers::Size;
 use board::numbers::TaskMeant;

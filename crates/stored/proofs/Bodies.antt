@@ -1,4 +1,4 @@
--- The stores of each call's body come to its effect, on a board that stands and where no refusal of its row applies. Assumes nothing.
+-- The stores of each call's body come to its effect, on a board that is settled and where no refusal of its row applies. Assumes nothing.
 use mathlib.Core.Path.{_≡_, sym, _∙_, subst}
 use mathlib.Core.Logic.{_≢_, inl}
 use mathlib.Core.Bool.{Bool, true, false, cond, _&&_}
@@ -25,7 +25,7 @@ use Rattle.paper.specs.Changes.{sets, clears, hold, withQueue, takeFirst}
 use Rattle.paper.specs.Effects.{queueWith, woken, placeAt, emptied, post, waitInterrupt, waits}
 use Rattle.linked.specs.Linked.{Linked, Numbered}
 use Rattle.kept.specs.Claims.{Sizes}
-use Rattle.kept.specs.Stands.{Stands}
+use Rattle.kept.specs.Settled.{Settled}
 use Rattle.kept.proofs.Reading.{placed-numbered, queued-placed, queue-walked}
 use Rattle.kept.proofs.Waiting.{task-numbered}
 use Rattle.kept.proofs.Taking.{take-none}
@@ -84,7 +84,7 @@ first-member [] x e n = absurd (n e)
 first-member (y ∷ q) x e n = inl e
 
 module _ (z : Size) (l : List ℕ) (e : length l ≡ total z) (a : Sizes z) (order : List ℕ) (queues : ℕ → List ℕ)
-    (s : Stands z (boardOf z l) order queues) (c : ℕ) (there : present (boardOf z l) c ≡ true) where
+    (s : Settled z (boardOf z l) order queues) (c : ℕ) (there : present (boardOf z l) c ≡ true) where
   abbrev from : Board
   from = boardOf z l
 

@@ -28,15 +28,15 @@ use Rattle.paper.specs.declared.answer.Answer.the-variants.{Accepted, Refused}
 use Rattle.paper.specs.Rules.{present, running}
 use Rattle.paper.specs.Changes.{hold}
 use Rattle.paper.specs.Effects.{ownPrio, placeAt, addressed, send, emptied, cancelMessage, waits, install, cancelTask, lowestFree}
-use Rattle.paper.specs.Refusals.{Test, no3, no4, no5, no6, no7, no8, no7Install, no9, no10, no11, no12, no13, own, Verdict, Go, Stop, lowest}
-use Rattle.paper.specs.Step.{Done, body}
+use Rattle.paper.specs.Refusals.{Test, no3, no4, no5, no6, no7, no8, no7Install, no9, no10, no11, no12, no13, ownRow, Verdict, Go, Stop, lowest}
+use Rattle.paper.specs.Outcomes.{Undispatched, body}
 use Rattle.linked.specs.Linked.{Linked, Numbered}
 use Rattle.kept.specs.Claims.{Sizes}
-use Rattle.kept.specs.Stands.{Stands}
+use Rattle.kept.specs.Settled.{Settled}
 use Rattle.kept.proofs.Reading.{runner-says, runner-passed, go-passed, neither, task-passed}
 use Rattle.kept.proofs.Holding.{isQueued, unqueued-out}
 use Rattle.kept.proofs.Waiting.{task-numbered}
-use Rattle.kept.proofs.Placing.{addressed-stands, sender-passed}
+use Rattle.kept.proofs.Placing.{addressed-settled, sender-passed}
 use Rattle.kept.proofs.Taking.{queued-passed}
 use Rattle.queue.specs.Moves.{orderOut, queueOut, holdIn}
 use Rattle.queue.proofs.Queues.{length-queue-out, queue-out}
@@ -46,7 +46,7 @@ use Rattle.stored.proofs.Comes.{Comes, and-then, comes-same, comes-task
 use Rattle.stored.proofs.Bodies.{comes-emptied, comes-post, comes-wait, comes-waits, comes-placed, first-walked, comes-taken}
 
 module _ (z : Size) (l : List ℕ) (e : length l ≡ total z) (a : Sizes z) (q : List ℕ) (queues : ℕ → List ℕ)
-    (s : Stands z (boardOf z l) q queues) where
+    (s : Settled z (boardOf z l) q queues) where
   abbrev b : Board
   b = boardOf z l
 
@@ -72,14 +72,14 @@ module _ (z : Size) (l : List ℕ) (e : length l ≡ total z) (a : Sizes z) (q :
       let n = numbered r (p .2) in
       comes-placed z l e a (s .linked) m r n (held-out m c r (p .1) n)
 
-  send-comes : (m r : ℕ) → lowest (own z b c (Send m r)) ≡ Go → Comes z (placeAtIn z (addressedIn z l c m r) m r) (send z b c m r)
+  send-comes : (m r : ℕ) → lowest (ownRow z b c (Send m r)) ≡ Go → Comes z (placeAtIn z (addressedIn z l c m r) m r) (send z b c m r)
   send-comes m r g =
       let p = sender-passed z b q queues a s m r [] g in
       let n = numbered r (p .2) in
       let t = message b m in
       let f : Comes z (addressedIn z l c m r) (addressed b c m r) =
       comes-message z l e m (withSptr (withRptr (withPrio t (ownPrio (t .prio) (task b c .prio))) r) (cond (eqb (t .sptr) 0) c (t .sptr))) in
-      let h = addressed-stands z b q queues a s m r c (p .1) (p .2) (runner-says z b (p .0) .0) in
+      let h = addressed-settled z b q queues a s m r c (p .1) (p .2) (runner-says z b (p .0) .0) in
       and-then z (addressedIn z l c m r) _ _ (λ x. placeAt z x m r) f
       (λ k. comes-placed z (addressedIn z l c m r) k a (subst (λ (x : Board). Linked z x q queues) (sym (f .1)) (h .linked)) m r n (held-out m c r (p .1) n))
 
@@ -87,7 +87,7 @@ module _ (z : Size) (l : List ℕ) (e : length l ≡ total z) (a : Sizes z) (q :
   and-waits k d h = and-then z k _ _ (waits c) h (λ f. comes-waits z k f c)
 
   -- ---- tasks
-  install-comes : (k t p sptr name : ℕ) → lowest (own z b c (Install k t p sptr name)) ≡ Go
+  install-comes : (k t p sptr name : ℕ) → lowest (ownRow z b c (Install k t p sptr name)) ≡ Go
       → Comes z (bodyIn z l c (Install k t p sptr name) .after) (install z b k t p sptr name)
   install-comes k t p sptr name g =
       let prio = go-passed (no7Install p) (no8 z b k ∷ no9 t ∷ []) g in
@@ -98,7 +98,7 @@ module _ (z : Size) (l : List ℕ) (e : length l ≡ total z) (a : Sizes z) (q :
             (not-in-out k q (λ i. true≢false (sym (s .linked .tasks .exact k .0 i) ∙ room .1))),
       )
 
-  cancel-comes : (k : ℕ) → lowest (own z b c (CancelTask k)) ≡ Go → Comes z (bodyIn z l c (CancelTask k) .after) (cancelTask z b k)
+  cancel-comes : (k : ℕ) → lowest (ownRow z b c (CancelTask k)) ≡ Go → Comes z (bodyIn z l c (CancelTask k) .after) (cancelTask z b k)
   cancel-comes k g =
       let meant = go-passed (no6 z b k) (no10 b k ∷ []) (runs (no6 z b k ∷ no10 b k ∷ []) g .1) in
       let i = s .linked .tasks .exact k .1 (task-passed z b k (meant .0) .1) in
@@ -106,13 +106,13 @@ module _ (z : Size) (l : List ℕ) (e : length l ≡ total z) (a : Sizes z) (q :
       (length-order-out z l k ∙ e, order-out z l e (a .limit) (a .tasks) (s .linked) k i) (λ f. comes-task z (orderOut z l k) f k noTask)
 
   -- ---- messages
-  claim-comes : lowest (own z b c Claim) ≡ Go → Comes z (bodyIn z l c Claim .after) (withPlace b (lowestFree b) (HeldBy (taskNo c)))
+  claim-comes : lowest (ownRow z b c Claim) ≡ Go → Comes z (bodyIn z l c Claim .after) (withPlace b (lowestFree b) (HeldBy (taskNo c)))
   claim-comes g = comes-held z l e (lowestFree b) c (numbered c (runs (no11 b ∷ []) g .0)) (a .tasks)
 
   release-comes : (m : ℕ) → Comes z (bodyIn z l c (Release m) .after) (withPlace (withMessage b m noMessage) m Free)
   release-comes m = and-then z (putMessage z l m noMessage) _ _ (λ x. withPlace x m Free) (comes-message z l e m noMessage) (λ f. comes-free z _ f m)
 
-  cancel-message-comes : (m r : ℕ) → lowest (own z b c (CancelMessage m r)) ≡ Go
+  cancel-message-comes : (m r : ℕ) → lowest (ownRow z b c (CancelMessage m r)) ≡ Go
       → Comes z (bodyIn z l c (CancelMessage m r) .after) (cancelMessage z b c m r)
   cancel-message-comes m r g =
       let x = runs (no4 z m ∷ no6 z b r ∷ no12 b m r ∷ no13 b c m ∷ []) g in
@@ -126,7 +126,7 @@ module _ (z : Size) (l : List ℕ) (e : length l ≡ total z) (a : Sizes z) (q :
       (λ f. comes-emptied z (holdIn z (queueOut z l m r) c m) f r)
 
   -- ---- every call
-  pub body-comes : (call : Call) → lowest (own z b c call) ≡ Go → Comes z (bodyIn z l c call .after) (body z b c call .board)
+  pub body-comes : (call : Call) → lowest (ownRow z b c call) ≡ Go → Comes z (bodyIn z l c call .after) (body z b c call .board)
   body-comes (Install k t p sptr name) g = install-comes k t p sptr name g
   body-comes (PostInterrupt k) g = comes-post z l e k
   body-comes (Find name) g = comes-same z l e
@@ -148,7 +148,7 @@ module _ (z : Size) (l : List ℕ) (e : length l ≡ total z) (a : Sizes z) (q :
   body-comes WaitForInterrupt g = comes-wait z l e c
 
   -- the value that code hands back
-  pub body-value : (call : Call) → lowest (own z b c call) ≡ Go → bodyIn z l c call .value ≡ body z b c call .value
+  pub body-value : (call : Call) → lowest (ownRow z b c call) ≡ Go → bodyIn z l c call .value ≡ body z b c call .value
   body-value (Install k t p sptr name) g = refl
   body-value (PostInterrupt k) g = refl
   body-value (Find name) g = refl

@@ -18,15 +18,15 @@ use Rattle.paper.specs.declared.answer.Refusal.the-variants.{NothingToDeliver}
 use Rattle.paper.specs.declared.answer.Answer.the-variants.{Accepted, Refused}
 use Rattle.paper.specs.Rules.{order, queue, running, passes}
 use Rattle.paper.specs.Changes.{clears, takeFirst}
-use Rattle.paper.specs.Refusals.{no1, no2, own, row, Verdict, Go, Stop, lowest}
-use Rattle.paper.specs.Step.{Outcome, Done, done, accepted, refused, judge, body, deliver, dispatch, effect}
+use Rattle.paper.specs.Refusals.{no1, no2, ownRow, row, Verdict, Go, Stop, lowest}
+use Rattle.paper.specs.Outcomes.{Outcome, Undispatched, undispatched, accepted, refused, judge, body, deliver, dispatch, effect}
 use Rattle.kept.specs.Claims.{Sizes, Bytes}
-use Rattle.kept.specs.Stands.{Stands, Fitting}
+use Rattle.kept.specs.Settled.{Settled, Fitting}
 use Rattle.kept.specs.After.{orderAfter, queuesAfter}
 use Rattle.kept.proofs.Reading.{runner-says}
 use Rattle.kept.proofs.Fitting.{fits-board}
 use Rattle.kept.proofs.Dispatching.{dispatch-delivers}
-use Rattle.kept.proofs.Theorems.{body-stands, passing-sound, sound-stands, sound-runner}
+use Rattle.kept.proofs.Theorems.{body-settles, passing-sound, sound-settled, sound-runner}
 use Rattle.queue.specs.Moves.{clearsIn}
 use Rattle.inner.specs.Inner.{stepBy, bytesBy}
 use Rattle.inner.specs.Stores.{Stored, bodyIn, takeIn, deliverIn, dispatchIn, finish, calledIn}
@@ -39,9 +39,9 @@ use Rattle.stored.proofs.Calls.{body-comes, body-value}
 comes-bytes : (z : Size) (l : List ℕ) (b : Board) → Comes z l b → Small l → l ≡ bytesOf b
 comes-bytes z l b c h = sym (bytes-board z l (c .0) h) ∙ ap bytesOf (c .1)
 
--- ---- dispatch, of the bytes l of a board that stands; k are the bytes before the call
+-- ---- dispatch, of the bytes l of a board that is settled; k are the bytes before the call
 module _ (z : Size) (k l : List ℕ) (v : ℕ) (a : Sizes z) (q : List ℕ) (queues : ℕ → List ℕ) (e : length l ≡ total z)
-    (s : Stands z (boardOf z l) q queues) (h : Small (dispatchIn z v l .after)) where
+    (s : Settled z (boardOf z l) q queues) (h : Small (dispatchIn z v l .after)) where
   abbrev b : Board
   b = boardOf z l
 
@@ -56,7 +56,7 @@ module _ (z : Size) (k l : List ℕ) (v : ℕ) (a : Sizes z) (q : List ℕ) (que
   handover t = cond t (refused l NothingToDeliver) (accepted v c (task b c .mptr) (clearsIn z (takeIn z l c) c MHBS))
 
   -- the message is handed over
-  delivers : has (task b c .stat) MHBS ≡ true → Small (deliverIn z v l c .after) → deliverIn z v l c ≡ deliver z k (done v b) c
+  delivers : has (task b c .stat) MHBS ≡ true → Small (deliverIn z v l c .after) → deliverIn z v l c ≡ deliver z k (undispatched v b) c
   delivers d small =
       let there = runner-says z b (due-runs d) .0 in
       let m : ℕ = task b c .mptr in
@@ -69,11 +69,11 @@ module _ (z : Size) (k l : List ℕ) (v : ℕ) (a : Sizes z) (q : List ℕ) (que
       ∙ ap₂ (λ (x : ℕ) (y : List ℕ). accepted v c x y) (first-walked z l e a q queues s c there) bytes
       ∙ ap (λ (t : Bool). cond t (refused k NothingToDeliver) (accepted v c (firstOf (queue z b c)) (bytesOf (clears (takeFirst z b c) c MHBS)))) (sym full)
 
-  pub dispatch-comes : dispatchIn z v l ≡ dispatch z k (done v b)
+  pub dispatch-comes : dispatchIn z v l ≡ dispatch z k (undispatched v b)
   dispatch-comes = go (has (task b c .stat) MHBS) refl h
     where
       go : (t : Bool) → has (task b c .stat) MHBS ≡ t → Small (cond t (deliverIn z v l c) (accepted v c 0 l) .after)
-          → cond t (deliverIn z v l c) (accepted v c 0 l) ≡ cond t (deliver z k (done v b) c) (accepted v c 0 (bytesOf b))
+          → cond t (deliverIn z v l c) (accepted v c 0 l) ≡ cond t (deliver z k (undispatched v b) c) (accepted v c 0 (bytesOf b))
       go true d small = delivers d small
       go false d small = ap (accepted v c 0) (comes-bytes z l b (e, refl) small)
 
@@ -89,24 +89,24 @@ module _ (z : Size) (l : List ℕ) (call : Call) (a : Sizes z) (h : Bytes z l) (
   stores = bodyIn z l runner call
 
   -- refusals 1 and 2 are passed
-  row-own : lowest (row z l before runner call) ≡ lowest (own z before runner call)
+  row-own : lowest (row z l before runner call) ≡ lowest (ownRow z before runner call)
   row-own =
-      lowest-on (no1 z l) (no2 z before ∷ own z before runner call) (ap not (eq-eqb (length l) (total z) (h .long)))
-      ∙ lowest-on (no2 z before) (own z before runner call) (ap not p)
+      lowest-on (no1 z l) (no2 z before ∷ ownRow z before runner call) (ap not (eq-eqb (length l) (total z) (h .long)))
+      ∙ lowest-on (no2 z before) (ownRow z before runner call) (ap not p)
 
-  goes : lowest (own z before runner call) ≡ Go → Small (dispatchIn z (stores .value) (stores .after) .after)
+  goes : lowest (ownRow z before runner call) ≡ Go → Small (dispatchIn z (stores .value) (stores .after) .after)
       → dispatchIn z (stores .value) (stores .after) ≡ dispatch z l (body z before runner call)
   goes g small =
       let f = fits-board z l h in
       let s = passing-sound z before a f p in
-      let t = sound-stands z before a f s in
+      let t = sound-settled z before a f s in
       let c = body-comes z l (h .long) a (s .order) (s .queues) t call g in
-      let after = body-stands z before (s .order) (s .queues) call a w t (sound-runner z before a f s) g in
+      let after = body-settles z before (s .order) (s .queues) call a w t (sound-runner z before a f s) g in
       dispatch-comes z l (stores .after) (stores .value) a (orderAfter before (s .order) call) (queuesAfter before runner (s .queues) call) (c .0)
-      (subst (λ (x : Board). Stands z x (orderAfter before (s .order) call) (queuesAfter before runner (s .queues) call)) (sym (c .1)) after) small
-      ∙ ap₂ (λ (v : ℕ) (x : Board). dispatch z l (done v x)) (body-value z l (h .long) a (s .order) (s .queues) t call g) (c .1)
+      (subst (λ (x : Board). Settled z x (orderAfter before (s .order) call) (queuesAfter before runner (s .queues) call)) (sym (c .1)) after) small
+      ∙ ap₂ (λ (v : ℕ) (x : Board). dispatch z l (undispatched v x)) (body-value z l (h .long) a (s .order) (s .queues) t call g) (c .1)
 
-  by-verdict : (v : Verdict) → lowest (own z before runner call) ≡ v
+  by-verdict : (v : Verdict) → lowest (ownRow z before runner call) ≡ v
       → Small (finish z (stepBy v (stores .value)) (bytesBy v l (stores .after)) .after)
       → finish z (stepBy v (stores .value)) (bytesBy v l (stores .after)) ≡ judge l v (dispatch z l (body z before runner call))
   by-verdict Go g small = goes g small
@@ -114,5 +114,5 @@ module _ (z : Size) (l : List ℕ) (call : Call) (a : Sizes z) (h : Bytes z l) (
 
   pub call-effect : Small (calledIn z l call .after) → calledIn z l call ≡ effect z l call
   call-effect small =
-      by-verdict (lowest (own z before runner call)) refl small
+      by-verdict (lowest (ownRow z before runner call)) refl small
       ∙ ap (λ (v : Verdict). judge l v (dispatch z l (body z before runner call))) (sym row-own)

@@ -24,8 +24,8 @@ use Rattle.paper.specs.declared.answer.Refusal.the-variants.{NothingToDeliver}
 use Rattle.paper.specs.declared.answer.Answer.the-variants.{Accepted, Refused}
 use Rattle.paper.specs.Rules.{running}
 use Rattle.paper.specs.Effects.{lowestFree}
-use Rattle.paper.specs.Refusals.{no6, no7, Verdict, own, lowest}
-use Rattle.paper.specs.Step.{Outcome}
+use Rattle.paper.specs.Refusals.{no6, no7, Verdict, ownRow, lowest}
+use Rattle.paper.specs.Outcomes.{Outcome}
 use Rattle.stores.specs.declared.Body.{Body}
 use Rattle.stores.specs.declared.Body.the-variants.{Done, Stopped}
 use Rattle.stores.specs.Changes.{clears}
@@ -56,7 +56,7 @@ body z l c WaitForInterrupt = leaves 0 (waitInterrupt z l c)
 
 -- ---- a call up to dispatch; the verdict is that of the row below 1 and 2
 abbrev pub verdict : Size → List ℕ → Call → Verdict
-verdict z l call = let b = boardOf z l in lowest (own z b (running z b) call)
+verdict z l call = let b = boardOf z l in lowest (ownRow z b (running z b) call)
 
 abbrev pub stepping : Size → List ℕ → Call → Reply Body
 stepping z l call = replyBy (verdict z l call) l (body z l (running z (boardOf z l)) call)

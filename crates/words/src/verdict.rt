@@ -5,7 +5,7 @@ ghost use Prim.Native.Nat.{_≤_};
 ghost use lib.ListN.{length};
 ghost use Rattle.board.specs.Numbers.{small};
 ghost use Rattle.board.specs.Board.{total, boardOf};
-ghost use Rattle.paper.specs.Step.{Outcome, check};
+ghost use Rattle.paper.specs.Outcomes.{Outcome, check};
 ghost use Rattle.words.specs.Verdicts.{verdictOf, brokenRule};
 use crate::print::decimal;
 use crate::print::text;

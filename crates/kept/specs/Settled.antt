@@ -1,7 +1,7 @@
 -- A board between a call's body and its dispatch: R1 to R6 hold, with the lists that its links list. A reader of the promises about
 -- calls must believe this file.
 --   Fits z b                  the records are as many as the size says and every field fits its bytes
---   Stands z b order queues   b fits and keeps R1 to R6; its links list the tasks as order and the messages of task k as queues k
+--   Settled z b order queues   b fits and keeps R1 to R6; its links list the tasks as order and the messages of task k as queues k
 --   Fitting call              the call's arguments are words and bytes, as the code's types have it
 -- Assumes nothing.
 use mathlib.Core.Path.{_≡_}
@@ -21,7 +21,7 @@ use Rattle.board.specs.Board.{Board, task, message, place}
 use Rattle.paper.specs.declared.call.Call.{Call}
 use Rattle.paper.specs.declared.call.Call.the-variants.{Install, PostInterrupt, Find, CancelTask, Claim, Prepare, Release, Send, SendAndWait, Resend, ResendAndWait, Forward, ForwardAndWait, Return, ReturnAndWait, Receive, ReceiveAndWait, CancelMessage, WaitForInterrupt}
 use Rattle.linked.specs.Linked.{Numbered, Linked}
-use Rattle.linked.specs.Sound.{Proper, Kept, Flags}
+use Rattle.linked.specs.Sound.{Proper, PlaceGood, Flags}
 
 abbrev pub Byte : ℕ → Type 0
 Byte x = x < 256
@@ -37,12 +37,12 @@ pub record FitsTask (t : Task) : Type 0 where
   pub sptr : Word (t .sptr)
   pub name : Word (t .name)
 
-pub record FitsMessage (r : Message) : Type 0 where
-  pub stat : Byte (r .stat)
-  pub prio : Byte (r .prio)
-  pub link : Word (r .link)
-  pub rptr : Word (r .rptr)
-  pub sptr : Word (r .sptr)
+pub record FitsMessage (u : Message) : Type 0 where
+  pub stat : Byte (u .stat)
+  pub prio : Byte (u .prio)
+  pub link : Word (u .link)
+  pub rptr : Word (u .rptr)
+  pub sptr : Word (u .sptr)
 
 pub record Fits (z : Size) (b : Board) : Type 0 where
   pub first : Byte (b .first)
@@ -55,13 +55,13 @@ pub record Fits (z : Size) (b : Board) : Type 0 where
   pub message : (m : ℕ) → FitsMessage (message b m)
   pub place : (m : ℕ) → (Byte (placeByte (place b m))) × (placeOf z (placeByte (place b m)) ≡ place b m)
 
-pub record Stands (z : Size) (b : Board) (order : List ℕ) (queues : ℕ → List ℕ) : Type 0 where
+pub record Settled (z : Size) (b : Board) (order : List ℕ) (queues : ℕ → List ℕ) : Type 0 where
   pub fits : Fits z b
   pub byte1 : b .byte1 ≡ 0  -- R1
   pub zeros : All (λ x. x ≡ 0) (b .zeros)  -- R1
   pub records : (k : ℕ) → Numbered (z .tasks) k → (task b k ≡ noTask) ⊎ Proper (task b k)  -- R2
   pub linked : Linked z b order queues  -- R3, R5
-  pub kept : (m : ℕ) → Numbered (z .messages) m → Kept z b m (place b m)  -- R4
+  pub places : (m : ℕ) → Numbered (z .messages) m → PlaceGood z b m (place b m)  -- R4
   pub flags : (k : ℕ) → Numbered (z .tasks) k → Flags (task b k .stat) (task b k .mptr ≡ 0)  -- R6
 
 abbrev pub Fitting : Call → Type 0

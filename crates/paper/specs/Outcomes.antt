@@ -45,44 +45,44 @@ judge l Go o = o
 judge l (Stop q) o = refused l q
 
 -- ---- before dispatch: the board, and the value that find, claim and receive give
-pub record Done : Type 0 where
+pub record Undispatched : Type 0 where
   pub value : ℕ
   pub board : Board
 
-abbrev pub done : ℕ → Board → Done
-done v b = record { value = v; board = b }
+abbrev pub undispatched : ℕ → Board → Undispatched
+undispatched v b = record { value = v; board = b }
 
-abbrev pub body : Size → Board → ℕ → Call → Done
-body z b c (Install k s p sptr name) = done 0 (install z b k s p sptr name)
-body z b c (PostInterrupt k) = done 0 (post b k)
-body z b c (Find name) = done (find z b name) b
-body z b c (CancelTask k) = done 0 (cancelTask z b k)
-body z b c Claim = done (lowestFree b) (claim b c)
-body z b c (Prepare m s p sptr) = done 0 (prepare b m s p sptr)
-body z b c (Release m) = done 0 (release b m)
-body z b c (Send m r) = done 0 (send z b c m r)
-body z b c (SendAndWait m r) = done 0 (waits c (send z b c m r))
-body z b c (Resend m) = done 0 (resend z b m)
-body z b c (ResendAndWait m) = done 0 (waits c (resend z b m))
-body z b c (Forward m r) = done 0 (forward z b m r)
-body z b c (ForwardAndWait m r) = done 0 (waits c (forward z b m r))
-body z b c (Return m) = done 0 (giveBack z b m)
-body z b c (ReturnAndWait m) = done 0 (waits c (giveBack z b m))
-body z b c Receive = done (firstOf (queue z b c)) (takeFirst z b c)
-body z b c ReceiveAndWait = done 0 (waits c b)
-body z b c (CancelMessage m r) = done 0 (cancelMessage z b c m r)
-body z b c WaitForInterrupt = done 0 (waitInterrupt b c)
+abbrev pub body : Size → Board → ℕ → Call → Undispatched
+body z b c (Install k s p sptr name) = undispatched 0 (install z b k s p sptr name)
+body z b c (PostInterrupt k) = undispatched 0 (post b k)
+body z b c (Find name) = undispatched (find z b name) b
+body z b c (CancelTask k) = undispatched 0 (cancelTask z b k)
+body z b c Claim = undispatched (lowestFree b) (claim b c)
+body z b c (Prepare m s p sptr) = undispatched 0 (prepare b m s p sptr)
+body z b c (Release m) = undispatched 0 (release b m)
+body z b c (Send m r) = undispatched 0 (send z b c m r)
+body z b c (SendAndWait m r) = undispatched 0 (waits c (send z b c m r))
+body z b c (Resend m) = undispatched 0 (resend z b m)
+body z b c (ResendAndWait m) = undispatched 0 (waits c (resend z b m))
+body z b c (Forward m r) = undispatched 0 (forward z b m r)
+body z b c (ForwardAndWait m r) = undispatched 0 (waits c (forward z b m r))
+body z b c (Return m) = undispatched 0 (giveBack z b m)
+body z b c (ReturnAndWait m) = undispatched 0 (waits c (giveBack z b m))
+body z b c Receive = undispatched (firstOf (queue z b c)) (takeFirst z b c)
+body z b c ReceiveAndWait = undispatched 0 (waits c b)
+body z b c (CancelMessage m r) = undispatched 0 (cancelMessage z b c m r)
+body z b c WaitForInterrupt = undispatched 0 (waitInterrupt b c)
 
 -- ---- Dispatch: a running task that is due a message is handed its first one; with none queued it is 15, and all is as it was
-abbrev pub deliver : Size → List ℕ → Done → ℕ → Outcome
+abbrev pub deliver : Size → List ℕ → Undispatched → ℕ → Outcome
 deliver z l d c = let b = d .board in
     cond (emptyQueue b c) (refused l NothingToDeliver)
     (accepted (d .value) c (firstOf (queue z b c)) (bytesOf (clears (takeFirst z b c) c MHBS)))
 
-abbrev pub dispatchTo : Size → List ℕ → Done → ℕ → Outcome
+abbrev pub dispatchTo : Size → List ℕ → Undispatched → ℕ → Outcome
 dispatchTo z l d c = cond (has (task (d .board) c .stat) MHBS) (deliver z l d c) (accepted (d .value) c 0 (bytesOf (d .board)))
 
-abbrev pub dispatch : Size → List ℕ → Done → Outcome
+abbrev pub dispatch : Size → List ℕ → Undispatched → Outcome
 dispatch z l d = dispatchTo z l d (running z (d .board))
 
 -- ---- a call
