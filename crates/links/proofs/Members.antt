@@ -1,4 +1,4 @@
--- Numbers in lists: where one stands, what holds of each, and how long a list with no repeats can be.
+-- What stands in lists, numbers above all: where one stands, what holds of each, and how long a list with no repeats can be.
 -- Assumes nothing.
 use mathlib.Core.Path.{_≡_, refl, sym, ap, _∙_, subst}
 use mathlib.Core.Logic.{_≢_, _⊎_, inl, inr, ⊎-elim, _↔_}
@@ -152,18 +152,18 @@ once-middle-out m (x ∷ a) b d = ((λ e. out-right x a (m ∷ b) (d .0) .0 (sym
 
 -- ---- what holds of each
 -- it holds of any one
-pub all-at : (P : ℕ → Type 0) (q : List ℕ) → All P q → (x : ℕ) → In x q → P x
+pub all-at : {A : Type 0} (P : A → Type 0) (q : List A) → All P q → (x : A) → In x q → P x
 all-at P [] h x i = absurd i
 all-at P (y ∷ q) h x (inl e) = subst P (sym e) (h .0)
 all-at P (y ∷ q) h x (inr i) = all-at P q (h .1) x i
 
 -- what holds of any one holds of each
-pub all-of : (P : ℕ → Type 0) (q : List ℕ) → ((x : ℕ) → In x q → P x) → All P q
+pub all-of : {A : Type 0} (P : A → Type 0) (q : List A) → ((x : A) → In x q → P x) → All P q
 all-of P [] h = tt
 all-of P (x ∷ q) h = (h x (inl refl), all-of P q (λ y i. h y (inr i)))
 
 -- and so does what follows from it
-pub all-map : {P Q : ℕ → Type 0} → ((x : ℕ) → P x → Q x) → (q : List ℕ) → All P q → All Q q
+pub all-map : {A : Type 0} {P Q : A → Type 0} → ((x : A) → P x → Q x) → (q : List A) → All P q → All Q q
 all-map f [] h = tt
 all-map f (x ∷ q) h = (f x (h .0), all-map f q (h .1))
 

@@ -2,7 +2,7 @@
 --   In x q              x stands in q, a list of anything
 --   Out x q             the number x stands nowhere in q
 --   Once q              no number stands twice in q
---   All P q             P holds of each number of q
+--   All P q             P holds of each that stands in q
 --   Sorted number q     of any two the earlier has no greater priority number
 --   Chain next x q      the links from x are exactly q, and then 0
 -- Assumes nothing.
@@ -23,7 +23,7 @@ abbrev pub Once : List ℕ → Type 0
 Once [] = Unit {0}
 Once (x ∷ q) = Out x q × Once q
 
-abbrev pub All : (ℕ → Type 0) → List ℕ → Type 0
+abbrev pub All : {A : Type 0} → (A → Type 0) → List A → Type 0
 All P [] = Unit {0}
 All P (x ∷ q) = P x × All P q
 
