@@ -1,5 +1,5 @@
 //! Where the proved library is: the folder `STATION_LIB_DIR`, or else the repository's own. `rt staticlib station` writes it for
-//! x86-64; for another processor `tests/native_library` compiles the same module.
+//! x86-64; for another processor `tests/libraries` compiles the same module.
 use std::env::{var, var_os};
 use std::path::{Path, PathBuf};
 

@@ -1,47 +1,55 @@
-//! The proved library timed against the same work in plain safe Rust (the package `model`), in one run on one machine.
+//! bench [--quick] PROVED.so [BEFORE.so]: the table of docs/BENCHMARKS.md on standard output. BEFORE is another library, such as
+//! that of the landing before.
 //!
-//! Both get the same board and must give the same answer and the same bytes, or the run ends there. The time of a call is the best of
-//! several rounds; after each call the few bytes that it changed are put back, and the time of that alone is taken off.
-mod boards;
-mod timing;
+//! First all versions but BEFORE are compared on many boards, damaged ones among them, and all on the boards that are timed. They
+//! must give the same answers and the same bytes, or the run ends there.
+use std::env::args;
+use std::process::ExitCode;
 
-use boards::{check_cases, step_cases, Case};
-use std::hint::black_box;
-use timing::{best_of, Rounds};
+use bench::cases::{self, Case};
+use bench::compare;
+use bench::timing::Timing;
+use bench::version::{Version, PLAIN, TUNED};
 
-fn main() {
-    let quick = std::env::args().any(|word| word == "--quick");
-    let rounds = if quick { Rounds::QUICK } else { Rounds::FULL };
-    let sum = sum_of_a_board(rounds);
-    println!("| Call | proved, ns | plain Rust, ns | ratio | times the sum |");
-    println!("|---|---|---|---|---|");
-    println!("| sum of 1,476 bytes | | {sum:.0} | | 1.0 |");
-    for case in check_cases().iter().chain(&step_cases()) {
-        let (proved, plain) = time(case, rounds);
-        println!("| {} | {proved:.0} | {plain:.0} | {:.2} | {:.1} |", case.name, proved / plain, proved / sum);
+fn main() -> ExitCode {
+    let quick = args().any(|word| word == "--quick");
+    let libraries: Vec<String> = args().skip(1).filter(|word| word != "--quick").collect();
+    let told = match &libraries[..] {
+        [proved] => table(quick, proved, None),
+        [proved, before] => table(quick, proved, Some(before)),
+        _ => Err("usage: bench [--quick] PROVED.so [BEFORE.so]".to_string()),
+    };
+    if let Err(error) = told {
+        eprintln!("bench: {error}");
+        return ExitCode::FAILURE;
     }
+    ExitCode::SUCCESS
 }
 
-/// The plain sum of the bytes of a board, as a measure of the machine.
-fn sum_of_a_board(rounds: Rounds) -> f64 {
-    let board = [1u8; station::BYTES];
-    best_of(rounds, || {
-        black_box(black_box(&board).iter().map(|&byte| u64::from(byte)).sum::<u64>());
-    })
+fn table(quick: bool, proved: &str, before: Option<&String>) -> Result<(), String> {
+    let mut versions = vec![("proved", Version::open(proved)?), ("plain", PLAIN), ("tuned", TUNED)];
+    for seed in 1..=5 {
+        compare::on_cases(seed, 2000, versions[0].1)?;
+        compare::on_cases(seed, 2000, TUNED)?;
+    }
+    if let Some(path) = before {
+        versions.insert(1, ("before", Version::open(path)?));
+    }
+    let (names, versions): (Vec<_>, Vec<_>) = versions.into_iter().unzip();
+    let rows = cases::all();
+    rows.iter().try_for_each(|case| case.compare(&versions))?;
+
+    let timing = Timing::new(quick);
+    let ratios: Vec<String> = names[1..].iter().map(|name| format!("proved / {name}")).collect();
+    println!("| ns | {} | {} |", names.join(" | "), ratios.join(" | "));
+    println!("|{}", "---|".repeat(1 + names.len() + ratios.len()));
+    rows.iter().for_each(|case| print_row(case, &timing.of_case(case, &versions)));
+    println!("\nThe plain sum of a board's bytes takes {:.0} ns.", timing.of_sum());
+    Ok(())
 }
 
-/// Nanoseconds of the call, proved and plain.
-fn time(case: &Case, rounds: Rounds) -> (f64, f64) {
-    let mut board = case.board;
-    let undo = case.undo();
-    let undoing = best_of(rounds, || undo.put_back(black_box(&mut board)));
-    let proved = best_of(rounds, || {
-        black_box(case.proved(black_box(&mut board)));
-        undo.put_back(&mut board);
-    });
-    let plain = best_of(rounds, || {
-        black_box(case.plain(black_box(&mut board)));
-        undo.put_back(&mut board);
-    });
-    (proved - undoing, plain - undoing)
+fn print_row(case: &Case, times: &[f64]) {
+    let times_told: Vec<String> = times.iter().map(|time| format!("{time:.0}")).collect();
+    let ratios: Vec<String> = times[1..].iter().map(|time| format!("{:.2}", times[0] / time)).collect();
+    println!("| {} | {} | {} |", case.name, times_told.join(" | "), ratios.join(" | "));
 }

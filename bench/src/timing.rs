@@ -1,29 +1,90 @@
-//! How long something takes: the best of several rounds.
-use std::time::Instant;
+//! How long something takes: the best of many batches.
+use std::hint::black_box;
+use std::time::{Duration, Instant};
 
-/// How many rounds, and how many times each does the thing.
+use model::board::{Board, BOARD_LEN};
+
+use crate::cases::Case;
+use crate::version::Version;
+
+/// A board that begins where a line of the cache does, wherever it lies.
+#[repr(align(64))]
 #[derive(Clone, Copy)]
-pub struct Rounds {
-    rounds: u32,
-    times: u32,
+struct Lent(Board);
+
+/// How long to look for the best.
+pub struct Timing {
+    turns: u32,
+    turn: Duration,
+    /// What the clock itself takes, in nanoseconds.
+    clock: f64,
 }
 
-impl Rounds {
-    /// For figures that are kept.
-    pub const FULL: Rounds = Rounds { rounds: 60, times: 4000 };
-    /// To see that all of it runs.
-    pub const QUICK: Rounds = Rounds { rounds: 3, times: 200 };
-}
-
-/// Nanoseconds that `work` takes in the best round.
-pub fn best_of(how: Rounds, mut work: impl FnMut()) -> f64 {
-    let mut best = f64::INFINITY;
-    for _ in 0..how.rounds {
-        let start = Instant::now();
-        for _ in 0..how.times {
-            work();
-        }
-        best = best.min(start.elapsed().as_nanos() as f64 / f64::from(how.times));
+impl Timing {
+    /// For figures that are kept; or quick, to see that all of it runs.
+    pub fn new(quick: bool) -> Timing {
+        let (turns, turn) = if quick { (1, Duration::ZERO) } else { (12, Duration::from_millis(8)) };
+        let mut timing = Timing { turns, turn, clock: 0.0 };
+        timing.clock = timing.best(1, &mut (), |_| (), |_| ());
+        timing
     }
-    best
+
+    /// Nanoseconds of the case for each version. They take turns, so that none is the worse for coming first.
+    pub fn of_case(&self, case: &Case, versions: &[Version]) -> Vec<f64> {
+        let mut times = vec![f64::INFINITY; versions.len()];
+        for _ in 0..self.turns {
+            for (time, version) in times.iter_mut().zip(versions) {
+                let is_check = case.request.kind == 0;
+                *time = time.min(if is_check { self.checks(case, *version) } else { self.calls(case, *version) });
+            }
+        }
+        times
+    }
+
+    /// The plain sum of the bytes of a board, as a measure of the machine.
+    pub fn of_sum(&self) -> f64 {
+        let batch = |board: &mut Lent| {
+            for _ in 0..128 {
+                black_box(black_box(&board.0).iter().map(|&byte| u64::from(byte)).sum::<u64>());
+            }
+        };
+        self.best(128, &mut Lent([1; BOARD_LEN]), |_| (), batch)
+    }
+
+    /// The check of the case's boards, one after the other as the case says.
+    fn checks(&self, case: &Case, version: Version) -> f64 {
+        let mut boards: Vec<Lent> = case.boards.iter().copied().map(Lent).collect();
+        let batch = |boards: &mut Vec<Lent>| {
+            for &turn in &case.turns {
+                black_box(version.check(black_box(&boards[turn].0)));
+            }
+        };
+        self.best(case.turns.len(), &mut boards, |_| (), batch)
+    }
+
+    /// The call on 16 equal boards in a row, few enough for the nearest cache; they are put back between the batches.
+    fn calls(&self, case: &Case, version: Version) -> f64 {
+        let mut boards = [Lent(case.boards[0]); 16];
+        let put_back = |boards: &mut [Lent; 16]| *boards = [Lent(*black_box(&case.boards[0])); 16];
+        let batch = |boards: &mut [Lent; 16]| {
+            for board in boards {
+                black_box(version.call(&mut board.0, black_box(&case.request)));
+            }
+        };
+        self.best(16, &mut boards, put_back, batch)
+    }
+
+    /// Nanoseconds of each of so many things in the best batch of a turn.
+    fn best<T>(&self, size: usize, on: &mut T, before: impl Fn(&mut T), batch: impl Fn(&mut T)) -> f64 {
+        let (begin, mut best) = (Instant::now(), f64::INFINITY);
+        loop {
+            before(on);
+            let start = Instant::now();
+            batch(on);
+            best = best.min(start.elapsed().as_nanos() as f64);
+            if begin.elapsed() >= self.turn {
+                return (best - self.clock) / size as f64;
+            }
+        }
+    }
 }

@@ -1,0 +1,55 @@
+//! A version against the model, on the cases of the differential run: histories, damaged boards, wild arguments, wrong lengths.
+use model::runner::case::{CHECK, FRESH};
+use model::runner::cases::cases_of_seed;
+
+use crate::version::{Request, Version, PLAIN};
+
+/// How many cases of a kind were met.
+#[derive(Default)]
+pub struct Seen {
+    /// Boards that the check refuses.
+    pub damaged: usize,
+    /// Calls by the number of the refusal, 0 for those accepted.
+    pub refusals: [usize; 32],
+    /// Accepted calls by kind.
+    pub accepted: [usize; 32],
+}
+
+/// What was met in so many cases of a seed; an error where an answer or a byte differs. The check is tried on every board.
+pub fn on_cases(seed: u64, count: usize, version: Version) -> Result<Seen, String> {
+    let mut seen = Seen::default();
+    for (number, case) in cases_of_seed(seed, count).into_iter().enumerate() {
+        let asked = case.request;
+        let differs = |what: &str| Err(format!("seed {seed}, case {number}, {}: the {what} differs", asked.in_words()));
+        let checked = PLAIN.check(&case.board);
+        seen.damaged += usize::from(checked == 2);
+        if version.check(&case.board) != checked {
+            return differs("check");
+        }
+        if [CHECK, FRESH].contains(&asked.kind) {
+            continue;
+        }
+        let request = Request { kind: asked.kind, words: [asked.a, asked.b, asked.c], stat: asked.stat, prio: asked.prio };
+        let (mut ours, mut theirs) = (case.board.clone(), case.board);
+        let told = PLAIN.call(&mut ours, &request);
+        if version.call(&mut theirs, &request) != told {
+            return differs("answer");
+        }
+        if ours != theirs {
+            return differs("board");
+        }
+        seen.count(request.kind, told as u8);
+    }
+    Ok(seen)
+}
+
+impl Seen {
+    fn count(&mut self, kind: u8, refusal: u8) {
+        if let Some(count) = self.refusals.get_mut(usize::from(refusal)) {
+            *count += 1;
+        }
+        if refusal == 0 {
+            self.accepted[usize::from(kind)] += 1;
+        }
+    }
+}

@@ -1,0 +1,69 @@
+//! Document 01 in safe Rust, written to be quick: the anchor that the proved code is compared with. What makes it quick:
+//!
+//! * Places are looked at eight at a time: eight free messages are one OR of eight words, eight held ones three sums of bits, and
+//!   eight queued ones are left to the walk.
+//! * One walk of the task queue tests R2 of each present task, R3, R6 and R7, and walks its messages (R5, and R4 of the queued
+//!   ones). It gathers faults and branches little, since it waits for the next link anyway. If it meets as many messages as have a
+//!   place of 64 or more, it met each of them, and once. The tasks that it did not meet must be zeros, eight at a time.
+//! * The check hands on what it has found: who runs, who is present, the last task, and the last message of each queue. A call
+//!   starts from there, and dispatch looks for the running task only where the call can have changed it.
+//!
+//! So the rules are no longer apart, as the definitions and the proved code have them.
+
+mod calls;
+mod check;
+
+use model::board::{Board, MESSAGES_AT, MESSAGE_LEN, PLACES_AT, TASKS_AT, TASK_LEN};
+
+/// The check of a board: refusal, value, running and delivered, packed as the C interface does.
+#[inline(never)]
+pub fn check(bytes: &[u8]) -> u64 {
+    let Ok(b) = <&Board>::try_from(bytes) else { return 1 };
+    check::examine(b).map_or(2, |found| accepted(0, found.running, 0))
+}
+
+/// A call by its kind, with its words in the paper's order; the answer is packed as the C interface does.
+#[inline(never)]
+pub fn call(bytes: &mut [u8], kind: u8, words: [u16; 3], stat: u8, prio: u8) -> u64 {
+    if !(1..=19).contains(&kind) {
+        return 255;
+    }
+    let Ok(b) = <&mut Board>::try_from(bytes) else { return 1 };
+    let Some(found) = check::examine(b) else { return 2 };
+    calls::call(b, &found, kind, words, stat, prio)
+}
+
+/// An accepted call's answer, packed.
+#[inline(always)]
+fn accepted(value: usize, running: usize, delivered: usize) -> u64 {
+    (value as u64) << 8 | (running as u64) << 24 | (delivered as u64) << 40
+}
+
+/// Where the record of a task begins: STAT, PRIO and the words LINK, MPTR, SPTR, NAME.
+#[inline(always)]
+fn task(k: usize) -> usize {
+    TASKS_AT + TASK_LEN * k - TASK_LEN
+}
+
+/// Where the record of a message begins: STAT, PRIO and the words LINK, RPTR, SPTR.
+#[inline(always)]
+fn message(m: usize) -> usize {
+    MESSAGES_AT + MESSAGE_LEN * m - MESSAGE_LEN
+}
+
+/// Where the place of a message is told.
+#[inline(always)]
+fn place(m: usize) -> usize {
+    PLACES_AT + m - 1
+}
+
+#[inline(always)]
+fn word(b: &Board, at: usize) -> usize {
+    usize::from(u16::from_le_bytes([b[at], b[at + 1]]))
+}
+
+/// Pieces of N bytes, one after the other.
+#[inline(always)]
+fn pieces<const N: usize>(bytes: &[u8]) -> impl Iterator<Item = &[u8; N]> + '_ {
+    bytes.chunks_exact(N).map(|piece| piece.try_into().expect("a piece has N bytes"))
+}

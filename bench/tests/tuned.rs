@@ -1,0 +1,32 @@
+//! The tuned version is document 01 too: it answers as the model does and leaves the same bytes.
+use bench::compare::{on_cases, Seen};
+use bench::version::{Request, Version, TUNED};
+
+#[test]
+fn tuned_and_model_agree() {
+    let mut all = Seen::default();
+    for seed in 1001..=1050 {
+        let seen = on_cases(seed, 2000, TUNED).unwrap();
+        all.damaged += seen.damaged;
+        (0..32).for_each(|i| all.refusals[i] += seen.refusals[i]);
+        (0..32).for_each(|i| all.accepted[i] += seen.accepted[i]);
+    }
+    assert!(all.damaged > 5000, "{} damaged boards", all.damaged);
+    assert!((0..=14).all(|refusal| all.refusals[refusal] > 0), "refusals {:?}", all.refusals);
+    assert!((1..=19).all(|kind| all.accepted[kind] > 0), "accepted {:?}", all.accepted);
+}
+
+#[test]
+fn a_version_that_errs_is_noticed() {
+    let check = |board: &[u8]| TUNED.check(board) | u64::from(board.len() == 1475);
+    let call = |board: &mut [u8], kind, words, stat, prio| {
+        let told = TUNED.call(board, &Request { kind, words, stat, prio });
+        // as forward does, so resend: RPTR of message 128 is written
+        if kind == 10 && told as u8 == 0 {
+            board[1347] ^= 1;
+        }
+        told
+    };
+    let erring = [Version::Rust(|_| 0, |_, _, _, _, _| 0), Version::Rust(check, call)];
+    assert!(erring.into_iter().all(|version| (1001..=1003).any(|seed| on_cases(seed, 2000, version).is_err())));
+}
