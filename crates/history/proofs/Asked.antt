@@ -29,8 +29,8 @@ use Rattle.kept.proofs.Reading.{order-walked, queue-walked, placed-numbered}
 use Rattle.history.specs.Ranking.{Entry, keep}
 use Rattle.history.specs.Machine as plain
 use Rattle.history.specs.Machine.{Whose, lowestFrom}
-use Rattle.history.specs.Claims.{Says}
-use Rattle.history.proofs.Entries.{once-keep, in-keep}
+use Rattle.history.specs.Claims.{IsWhere}
+use Rattle.history.proofs.Entries.{times-keep, in-keep}
 use Rattle.history.proofs.Names.{names-foremost, names-leads, in-names}
 use Rattle.history.proofs.Listed.{isAt}
 use Rattle.history.proofs.Named.{Named}
@@ -52,7 +52,7 @@ which-lowest none f g m (x ∷ r) h =
 
 -- ---- a place and whose it is
 -- free
-free-alike : (x : Place) → Says x (whoseOf x) → plain.isFree (whoseOf x) ≡ isFree x
+free-alike : (x : Place) → IsWhere x (whoseOf x) → plain.isFree (whoseOf x) ≡ isFree x
 free-alike Free h = refl
 free-alike (HeldBy k) h = refl
 free-alike (QueuedAt k) h = refl
@@ -75,10 +75,10 @@ queued-alike r (Nowhere p) = refl
 -- ---- places of a board that is settled
 module _ (z : Size) (b : Board) (q : List ℕ) (f : ℕ → List ℕ) (h : kept.Settled z b q f) where
   -- no message is nowhere
-  pub places-say : (m : ℕ) → Says (place b m) (whoseOf (place b m))
-  places-say m = step (place b m) refl
+  pub is-where : (m : ℕ) → IsWhere (place b m) (whoseOf (place b m))
+  is-where m = step (place b m) refl
     where
-      step : (x : Place) → place b m ≡ x → Says x (whoseOf x)
+      step : (x : Place) → place b m ≡ x → IsWhere x (whoseOf x)
       step Free e = refl
       step (HeldBy k) e = refl
       step (QueuedAt k) e = refl
@@ -95,7 +95,7 @@ module _ (z : Size) (b : Board) (q : List ℕ) (f : ℕ → List ℕ) (h : kept.
 
   -- which is free
   pub asked-free : (l s : List Entry) (n : ℕ) → plain.lowestFree z (plainOf b l s n) ≡ lowestFree b
-  asked-free l s n = lowest-place plain.isFree isFree (λ m. free-alike (place b m) (places-say m))
+  asked-free l s n = lowest-place plain.isFree isFree (λ m. free-alike (place b m) (is-where m))
 
   -- whether task k holds one
   pub asked-holds : (l s : List Entry) (n k : ℕ) → plain.holdsOne z (plainOf b l s n) k ≡ holdsOne b k
@@ -108,19 +108,19 @@ module _ (z : Size) (b : Board) (q : List ℕ) (f : ℕ → List ℕ) (a : Sizes
   -- who runs
   pub asked-running : plain.running (plainOf b l s n) ≡ running z b
   asked-running =
-      names-foremost l q _ (ready b) (w .tasks .once) (λ x i. refl) (w .order)
+      names-foremost l q _ (ready b) (w .tasks .times) (λ x i. refl) (w .order)
       ∙ ap (firstWith (ready b)) (sym (order-walked z b q f h (a .limit)))
 
   -- who is found
   pub asked-find : (name : ℕ) → plain.find (plainOf b l s n) name ≡ find z b name
   asked-find name =
-      names-foremost l q _ (λ k. eqb (task b k .name) name) (w .tasks .once) (λ x i. refl) (w .order)
+      names-foremost l q _ (λ k. eqb (task b k .name) name) (w .tasks .times) (λ x i. refl) (w .order)
       ∙ ap (firstWith (λ k. eqb (task b k .name) name)) (sym (order-walked z b q f h (a .limit)))
 
   module _ (k : ℕ) (d : Numbered (z .tasks) k) where
     -- the first message of task k
     pub asked-first : plain.first (plainOf b l s n) k ≡ firstOf (f k)
-    asked-first = names-leads (keep (isAt k) s) (f k) (once-keep (isAt k) s (w .messages .once)) (w .queues k d)
+    asked-first = names-leads (keep (isAt k) s) (f k) (times-keep (isAt k) s (w .messages .times)) (w .queues k d)
 
     -- which MPTR is
     pub first-mptr : plain.first (plainOf b l s n) k ≡ task b k .mptr

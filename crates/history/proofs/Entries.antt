@@ -8,7 +8,7 @@ use Prim.Native.Nat.{_<_}
 use native.Mathlib.Omega.{arith}
 use Rattle.links.specs.Chain.{In}
 use Rattle.links.proofs.Members.{in-add}
-use Rattle.history.specs.Ranking.{Entry, keep, Once}
+use Rattle.history.specs.Ranking.{Entry, keep, DifferentTimes}
 
 -- ---- who stands where
 -- of what is kept: those that stood there and pass
@@ -78,9 +78,9 @@ keep-keep test other (x ∷ l) = step (test x) refl (other x) refl (keep-keep te
 
 -- ---- no two made at one time
 -- with one more at the end, made later
-pub once-add : (l : List Entry) (e : Entry) → Once l → ((x : Entry) → In x l → x .time < e .time) → Once (l ++ (e ∷ []))
-once-add [] e o h = ((λ y i. absurd i), tt)
-once-add (x ∷ l) e o h = (apart, once-add l e (o .1) (λ y i. h y (inr i)))
+pub times-add : (l : List Entry) (e : Entry) → DifferentTimes l → ((x : Entry) → In x l → x .time < e .time) → DifferentTimes (l ++ (e ∷ []))
+times-add [] e o h = ((λ y i. absurd i), tt)
+times-add (x ∷ l) e o h = (apart, times-add l e (o .1) (λ y i. h y (inr i)))
   where
     apart : (y : Entry) → In y (l ++ (e ∷ [])) → y .time ≢ x .time
     apart y i =
@@ -88,10 +88,10 @@ once-add (x ∷ l) e o h = (apart, once-add l e (o .1) (λ y i. h y (inr i)))
         ⊎-elim (o .0 y) new (in-add y e l .0 i)
 
 -- of what is kept
-pub once-keep : (test : Entry → Bool) (l : List Entry) → Once l → Once (keep test l)
-once-keep test [] o = tt
-once-keep test (x ∷ l) o = step (test x) (once-keep test l (o .1))
+pub times-keep : (test : Entry → Bool) (l : List Entry) → DifferentTimes l → DifferentTimes (keep test l)
+times-keep test [] o = tt
+times-keep test (x ∷ l) o = step (test x) (times-keep test l (o .1))
   where
-    step : (b : Bool) → Once (keep test l) → Once (cond b (x ∷ keep test l) (keep test l))
+    step : (b : Bool) → DifferentTimes (keep test l) → DifferentTimes (cond b (x ∷ keep test l) (keep test l))
     step true ih = ((λ y i. o .0 y (in-keep test y l .0 i .0)), ih)
     step false ih = ih

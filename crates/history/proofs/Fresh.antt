@@ -155,7 +155,7 @@ module _ (z : Size) where
 
   no-roll : (number : ℕ → ℕ) → Roll number 0 []
   no-roll number =
-      record { once = tt; past = λ x i. absurd i; numbers = λ x i. absurd i; single = λ x y i. absurd i }
+      record { times = tt; past = λ x i. absurd i; numbers = λ x i. absurd i; single = λ x y i. absurd i }
 
   start-named : Named z start [] (λ k. [])
   start-named = record {

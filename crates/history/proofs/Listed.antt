@@ -15,8 +15,8 @@ use Rattle.links.specs.Queue.{goesBefore, insert, without}
 use Rattle.board.specs.declared.numbers.Size.{Size}
 use Rattle.linked.specs.Linked.{Numbered}
 use Rattle.kept.specs.After.{changed}
-use Rattle.history.specs.Ranking.{Entry, keep, Once, Names}
-use Rattle.history.proofs.Entries.{once-keep, in-keep, keep-keep, keep-add, keep-all}
+use Rattle.history.specs.Ranking.{Entry, keep, DifferentTimes, Names}
+use Rattle.history.proofs.Entries.{times-keep, in-keep, keep-keep, keep-add, keep-all}
 use Rattle.history.proofs.Names.{names-add, names-without}
 use Rattle.history.proofs.Rolls.{Roll, others, roll-stays, roll-without, roll-add}
 
@@ -55,7 +55,7 @@ module _ (z : Size) (tasks messages : ℕ → ℕ) (now : ℕ) (l s : List Entry
     tasks = roll-add tasks tasks′ now l (h .tasks) e made own new same;
     messages = roll-stays messages messages now s (h .messages) (suc now) (omega arith) (λ x i. refl);
     homes = h .homes;
-    order = names-add l order e tasks (h .tasks .once) (λ x i. omega (arith, h .tasks .past x i)) (h .tasks .numbers) (h .order);
+    order = names-add l order e tasks (h .tasks .times) (λ x i. omega (arith, h .tasks .past x i)) (h .tasks .numbers) (h .order);
     queues = h .queues;
   }
 
@@ -71,8 +71,8 @@ module _ (z : Size) (tasks messages : ℕ → ℕ) (now : ℕ) (l s : List Entry
   }
 
   -- ---- messages
-  once-at : (k : ℕ) → Once (keep (isAt k) s)
-  once-at k = once-keep (isAt k) s (h .messages .once)
+  times-at : (k : ℕ) → DifferentTimes (keep (isAt k) s)
+  times-at k = times-keep (isAt k) s (h .messages .times)
 
   from : (k : ℕ) (x : Entry) → In x (keep (isAt k) s) → In x s
   from k x i = in-keep (isAt k) x s .0 i .0
@@ -90,7 +90,7 @@ module _ (z : Size) (tasks messages : ℕ → ℕ) (now : ℕ) (l s : List Entry
         let k : ℕ = e .at in
         subst (λ (x : List Entry). Names x (with (queues k)))
         (sym (keep-add (isAt k) s e ∙ ap (λ (t : Bool). keep (isAt k) s ++ cond t (e ∷ []) []) (eq-eqb k k refl)))
-        (names-add (keep (isAt k) s) (queues k) e messages (once-at k) (λ x i. omega (arith, h .messages .past x (from k x i)))
+        (names-add (keep (isAt k) s) (queues k) e messages (times-at k) (λ x i. omega (arith, h .messages .past x (from k x i)))
         (λ x i. h .messages .numbers x (from k x i)) (h .queues k home))
 
     names-apart : (k : ℕ) → Numbered (z .tasks) k → k ≢ e .at → Names (keep (isAt k) (s ++ (e ∷ []))) (queues k)

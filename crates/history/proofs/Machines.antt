@@ -61,11 +61,11 @@ module _ (l s : List Entry) (n : ℕ) where
       (upd-put sheetOf noTask (b .tasks) k t h)
 
   -- a message
-  pub plain-message : (b : Board) (m : ℕ) (r : Message) → Numbered (length (b .messages)) m
-      → withBlock (plainOf b l s n) m (blockOf r) ≡ plainOf (withMessage b m r) l s n
-  plain-message b m r h =
+  pub plain-message : (b : Board) (m : ℕ) (u : Message) → Numbered (length (b .messages)) m
+      → withBlock (plainOf b l s n) m (blockOf u) ≡ plainOf (withMessage b m u) l s n
+  plain-message b m u h =
       ap (λ (g : ℕ → Block). let p = plainOf b l s n in machine (p .sheets) g (p .whose) l s n)
-      (upd-put blockOf noMessage (b .messages) m r h)
+      (upd-put blockOf noMessage (b .messages) m u h)
 
   -- a place
   pub plain-place : (b : Board) (m : ℕ) (x : Place) → Numbered (length (b .places)) m
@@ -81,11 +81,11 @@ module _ (l s : List Entry) (n : ℕ) where
       ap (λ (g : ℕ → Sheet). let p = plainOf b l s n in machine g (p .blocks) (p .whose) l s n)
       (fun-ext (λ j. nth-alike sheetOf noTask (b .tasks) k j t e))
 
-  plain-message-alike : (b : Board) (m : ℕ) (r : Message) → blockOf r ≡ blockOf (message b m)
-      → plainOf (withMessage b m r) l s n ≡ plainOf b l s n
-  plain-message-alike b m r e =
+  plain-message-alike : (b : Board) (m : ℕ) (u : Message) → blockOf u ≡ blockOf (message b m)
+      → plainOf (withMessage b m u) l s n ≡ plainOf b l s n
+  plain-message-alike b m u e =
       ap (λ (g : ℕ → Block). let p = plainOf b l s n in machine (p .sheets) g (p .whose) l s n)
-      (fun-ext (λ j. nth-alike blockOf noMessage (b .messages) m j r e))
+      (fun-ext (λ j. nth-alike blockOf noMessage (b .messages) m j u e))
 
   -- the queue of a task
   pub plain-queue : (b : Board) (r : ℕ) (q : List ℕ) → plainOf (withQueue b r q) l s n ≡ plainOf b l s n
@@ -186,14 +186,14 @@ module _ (z : Size) (l s : List Entry) (n : ℕ) (b : Board) (m r : ℕ)
   -- before its task is woken
   plain-laid : laid (plainOf b l s n) m r ≡ plainOf lying l now (suc n)
   plain-laid =
-      let t = blockOf (message b m) in
+      let u = blockOf (message b m) in
       let e : plainOf (withQueue b r q) l now (suc n) ≡ plainOf b l now (suc n) = plain-queue l now (suc n) b r q in
-      let to : Block → Block = λ g. record { stat = g .stat; prio = withFifo (t .prio); rptr = g .rptr; sptr = g .sptr } in
-      ap (λ (p : Plain). withBlock (withWhose p m (Queued r)) m (to t)) (sym e)
-      ∙ ap (λ (p : Plain). withBlock p m (to t))
+      let to : Block → Block = λ g. record { stat = g .stat; prio = withFifo (u .prio); rptr = g .rptr; sptr = g .sptr } in
+      ap (λ (p : Plain). withBlock (withWhose p m (Queued r)) m (to u)) (sym e)
+      ∙ ap (λ (p : Plain). withBlock p m (to u))
       (plain-place l now (suc n) (withQueue b r q) m (places.QueuedAt (taskNo r)) (rw (length-places b r q) hp))
       ∙ ap (λ (g : Block). withBlock (plainOf d l now (suc n)) m (to g)) (sym (ap (λ (p : Plain). p .blocks m) e))
-      ∙ plain-message l now (suc n) d m (withPrio (message d m) (withFifo (t .prio))) (rw (length-messages b r q) hm)
+      ∙ plain-message l now (suc n) d m (withPrio (message d m) (withFifo (u .prio))) (rw (length-messages b r q) hm)
 
   -- into a queue
   pub plain-placed : let p = plainOf b l s n in plain.place p m r ≡ plainOf (placeAt z b m r) l (laid p m r .placements) (suc n)

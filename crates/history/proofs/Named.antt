@@ -55,10 +55,10 @@ module _ (z : Size) (p : Plain) (q : List ℕ) (f : ℕ → List ℕ) (h : Named
       (λ x i. upd-alike (λ (t : Sheet). number (t .prio)) (p .sheets) k (x .id) _ refl) (λ x i. refl)
 
   -- the block of a message written that stands nowhere
-  pub named-block : (m : ℕ) (b : Block) → ((x : Entry) → In x (p .placements) → x .id ≢ m) → Named z (withBlock p m b) q f
-  named-block m b new =
-      lists-stays z (taskPrio p) (messagePrio p) (p .clock) (p .installs) (p .placements) q f h _ (messagePrio (withBlock p m b))
-      (λ x i. refl) (λ x i. ap (λ (t : Block). number (t .prio)) (upd-other (p .blocks) m (x .id) b (new x i)))
+  pub named-block : (m : ℕ) (u : Block) → ((x : Entry) → In x (p .placements) → x .id ≢ m) → Named z (withBlock p m u) q f
+  named-block m u new =
+      lists-stays z (taskPrio p) (messagePrio p) (p .clock) (p .installs) (p .placements) q f h _ (messagePrio (withBlock p m u))
+      (λ x i. refl) (λ x i. ap (λ (u : Block). number (u .prio)) (upd-other (p .blocks) m (x .id) u (new x i)))
 
   -- a task installed
   pub named-install : (k s prio sptr name : ℕ) → ((x : Entry) → In x (p .installs) → x .id ≢ k)
@@ -116,8 +116,8 @@ module _ (z : Size) (p : Plain) (q : List ℕ) (f : ℕ → List ℕ) (h : Named
   named-laid : Named z (laid p m r) q after
   named-laid =
       lists-place z (taskPrio p) (messagePrio p) (p .clock) (p .installs) (p .placements) q f h (messagePrio (laid p m r)) _ refl
-      (ap (λ (t : Block). number (t .prio)) (upd-own (p .blocks) m _) ∙ number-withFifo prio) new
-      (λ j d. ap (λ (t : Block). number (t .prio)) (upd-other (p .blocks) m j _ d)) n
+      (ap (λ (u : Block). number (u .prio)) (upd-own (p .blocks) m _) ∙ number-withFifo prio) new
+      (λ j d. ap (λ (u : Block). number (u .prio)) (upd-other (p .blocks) m j _ d)) n
 
   -- one that stood nowhere
   pub named-place : let prio = p .blocks m .prio in

@@ -12,9 +12,9 @@ use Rattle.links.specs.Queue.{goesBefore, insert, without, firstOf, firstWith}
 use Rattle.links.specs.Chain.{In}
 use Rattle.links.proofs.Members.{in-add}
 use Rattle.board.specs.Status.{number, fifo}
-use Rattle.history.specs.Ranking.{Entry, ahead, keep, leads, foremost, InOrder, Ranking, Once, Names}
+use Rattle.history.specs.Ranking.{Entry, ahead, keep, leads, foremost, InOrder, Ranking, DifferentTimes, Names}
 use Rattle.history.proofs.Ahead.{ahead-newest}
-use Rattle.history.proofs.Entries.{keep-all, once-keep}
+use Rattle.history.proofs.Entries.{keep-all, times-keep}
 use Rattle.history.proofs.Ranks.{ahead-at, ahead-out, place, ranking-place, ranking-keep, first-leader}
 
 -- the numbers of a list
@@ -34,7 +34,7 @@ names-place e goes (x ∷ q) h = step (ahead e x) (h x (inl refl)) (names-place 
     step false g ih = rw (g, insert) (ap (λ (r : List ℕ). x .id ∷ r) ih)
 
 -- one made later than all goes where insertion by number and queue type puts it
-pub names-add : (l : List Entry) (n : List ℕ) (e : Entry) (num : ℕ → ℕ) → Once l
+pub names-add : (l : List Entry) (n : List ℕ) (e : Entry) (num : ℕ → ℕ) → DifferentTimes l
     → ((x : Entry) → In x l → x .time < e .time) → ((x : Entry) → In x l → num (x .id) ≡ x .number) → Names l n
     → Names (l ++ (e ∷ [])) (insert (λ y. goesBefore (e .fifo) (e .number) (num y)) (e .id) n)
 names-add l n e num o t k m = record {
@@ -86,7 +86,7 @@ names-without l n m k one = record {
 
 -- ---- the first
 -- the leader is the first of the ranking
-pub names-leads : (l : List Entry) (n : List ℕ) → Once l → Names l n → leads l ≡ firstOf n
+pub names-leads : (l : List Entry) (n : List ℕ) → DifferentTimes l → Names l n → leads l ≡ firstOf n
 names-leads l n o m = step l (m .list) (m .ranking) ∙ ap firstOf (sym (m .names))
   where
     step : (l q : List Entry) → Ranking l q → leads l ≡ firstOf (names q)
@@ -101,10 +101,10 @@ names-leads l n o m = step l (m .list) (m .ranking) ∙ ap firstOf (sym (m .name
         others y (inr i) = inr (ahead-at h q (r .order .0) y i)
 
 -- the foremost of those that pass is the first of the ranking that passes
-pub names-foremost : (l : List Entry) (n : List ℕ) (test : Entry → Bool) (f : ℕ → Bool) → Once l
+pub names-foremost : (l : List Entry) (n : List ℕ) (test : Entry → Bool) (f : ℕ → Bool) → DifferentTimes l
     → ((x : Entry) → In x l → test x ≡ f (x .id)) → Names l n → foremost test l ≡ firstWith f n
 names-foremost l n test f o h m =
-    names-leads (keep test l) (names (keep test (m .list))) (once-keep test l o)
+    names-leads (keep test l) (names (keep test (m .list))) (times-keep test l o)
     (record { list = keep test (m .list); ranking = ranking-keep test l (m .list) (m .ranking); names = refl })
     ∙ step (m .list) (λ x i. h x (m .ranking .same x .0 i)) ∙ ap (firstWith f) (sym (m .names))
   where

@@ -27,7 +27,6 @@ use Rattle.kept.specs.After.{changed, placed, sent}
 use Rattle.kept.specs.Claims.{Sizes}
 use Rattle.kept.proofs.Reading.{message-put, message-other}
 use Rattle.kept.proofs.Holding.{isQueued, unqueued-out, held-numbered}
-use Rattle.history.specs.Ranking as ranks
 use Rattle.history.specs.Ranking.{Entry}
 use Rattle.history.specs.Machine as plain
 use Rattle.history.specs.Machine.{Plain}
@@ -63,8 +62,8 @@ module _ (z : Size) (b : Board) (q : List ℕ) (f : ℕ → List ℕ) (a : Sizes
 
     -- ---- a held one, addressed first
     abbrev new : Message
-    new = let t = message b m in
-        withSptr (withRptr (withPrio t (ownPrio (t .prio) (task b c .prio))) r) (cond (eqb (t .sptr) 0) c (t .sptr))
+    new = let u = message b m in
+        withSptr (withRptr (withPrio u (ownPrio (u .prio) (task b c .prio))) r) (cond (eqb (u .sptr) 0) c (u .sptr))
 
     abbrev e : Board
     e = addressed b c m r
@@ -79,10 +78,10 @@ module _ (z : Size) (b : Board) (q : List ℕ) (f : ℕ → List ℕ) (a : Sizes
     addressed-queue : placed e f m (message e m .prio) r ≡ sent b c f m r
     addressed-queue =
         let prio : ℕ = new .prio in
-        ap (λ (t : Message). placed e f m (t .prio) r) addressed-reads
+        ap (λ (u : Message). placed e f m (u .prio) r) addressed-reads
         ∙ ap (changed f r) (insert-stays (λ y. goesBefore (fifo prio) (number prio) (messageNumber e y))
         (λ y. goesBefore (fifo prio) (number prio) (messageNumber b y)) m (f r)
-        (λ y i. ap (λ (t : Message). goesBefore (fifo prio) (number prio) (number (t .prio)))
+        (λ y i. ap (λ (u : Message). goesBefore (fifo prio) (number prio) (number (u .prio)))
         (message-other b m y new (unqueued-out z b q f h m (ap isQueued held) r d y i))))
 
     -- send

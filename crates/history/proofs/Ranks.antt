@@ -5,7 +5,8 @@ use mathlib.Core.Logic.{_≢_, _⊎_, inl, inr, ⊎-elim, _↔_}
 use mathlib.Core.Bool.{Bool, true, false, cond, not, true≢false}
 use mathlib.Core.List.{List, [], _∷_}
 use Rattle.links.specs.Chain.{In}
-use Rattle.history.specs.Ranking.{Entry, ahead, keep, leader, AheadOf, InOrder, Ranking, Once}
+use Rattle.links.proofs.Members.{all-at, all-of}
+use Rattle.history.specs.Ranking.{Entry, ahead, keep, leader, AheadOf, InOrder, Ranking, DifferentTimes}
 use Rattle.history.specs.Claims.{Ranked, OneRanking}
 use Rattle.history.proofs.Ahead.{ahead-irreflexive, ahead-asymmetric, ahead-transitive, ahead-total}
 use Rattle.history.proofs.Entries.{in-keep}
@@ -13,14 +14,11 @@ use Rattle.history.proofs.Entries.{in-keep}
 -- ---- ahead of each
 -- of any one of them
 pub ahead-at : (x : Entry) (q : List Entry) → AheadOf x q → (y : Entry) → In y q → ahead x y ≡ true
-ahead-at x [] h y i = absurd i
-ahead-at x (z ∷ q) h y (inl e) = subst (λ (w : Entry). ahead x w ≡ true) (sym e) (h .0)
-ahead-at x (z ∷ q) h y (inr i) = ahead-at x q (h .1) y i
+ahead-at x q = all-at (λ y. ahead x y ≡ true) q
 
 -- of any one, so of each
 ahead-all : (x : Entry) (q : List Entry) → ((y : Entry) → In y q → ahead x y ≡ true) → AheadOf x q
-ahead-all x [] h = tt
-ahead-all x (y ∷ q) h = (h y (inl refl), ahead-all x q (λ z i. h z (inr i)))
+ahead-all x q = all-of (λ y. ahead x y ≡ true) q
 
 -- one ahead of the list doesn't stand in it
 pub ahead-out : (x y : Entry) (q : List Entry) → AheadOf x q → In y q → x ≡ y → ⊥
@@ -54,7 +52,7 @@ order-one (x ∷ q) (y ∷ r) s a b = ap₂ _∷_ same (order-one q r (λ z. (th
     back z i = ⊎-elim (λ (e : z ≡ x). absurd (ahead-out y z r (b .0) i (sym same ∙ sym e))) (λ j. j) (s z .1 (inr i))
 
 -- any two rankings of a list are one list
-pub ranking-one : (l q r : List Entry) → Once l → Ranking l q → Ranking l r → q ≡ r
+pub ranking-one : (l q r : List Entry) → DifferentTimes l → Ranking l q → Ranking l r → q ≡ r
 ranking-one l q r o a b =
     order-one q r (λ x. ((λ i. b .same x .1 (a .same x .0 i)), λ i. a .same x .1 (b .same x .0 i))) (a .order) (b .order)
 
@@ -117,7 +115,7 @@ ranking-place e l q n r = record {
     back y (inr i) = inr (r .same y .1 i)
 
 -- a ranking that there is, and no other
-ranked : (l q : List Entry) → Once l → Ranking l q → Ranked l
+ranked : (l q : List Entry) → DifferentTimes l → Ranking l q → Ranked l
 ranked l q o r = record { list = q; ranking = r; only = λ p s. ranking-one l p q o s r }
 
 -- of entries made at different times exactly one list is the ranking

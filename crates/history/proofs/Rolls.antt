@@ -11,12 +11,12 @@ use lib.Dec.{eqb}
 use borrow.Author.Tests.{eqb-false, not-true}
 use Rattle.links.specs.Chain.{In}
 use Rattle.links.proofs.Members.{in-add}
-use Rattle.history.specs.Ranking.{Entry, keep, Once}
-use Rattle.history.proofs.Entries.{once-add, once-keep, in-keep}
+use Rattle.history.specs.Ranking.{Entry, keep, DifferentTimes}
+use Rattle.history.proofs.Entries.{times-add, times-keep, in-keep}
 
 -- number reads the priority number of an id
 pub record Roll (number : ℕ → ℕ) (now : ℕ) (l : List Entry) : Type 0 where
-  pub once : Once l
+  pub times : DifferentTimes l
   pub past : (x : Entry) → In x l → x .time < now
   pub numbers : (x : Entry) → In x l → number (x .id) ≡ x .number
   pub single : (x y : Entry) → In x l → In y l → x .id ≡ y .id → x ≡ y
@@ -29,7 +29,7 @@ module _ (number number′ : ℕ → ℕ) (now : ℕ) (l : List Entry) (h : Roll
   -- later on, where the numbers read are the same
   pub roll-stays : (now′ : ℕ) → now ≤ now′ → ((x : Entry) → In x l → number′ (x .id) ≡ number (x .id)) → Roll number′ now′ l
   roll-stays now′ n g = record {
-    once = h .once;
+    times = h .times;
     past = λ x s. omega (arith, h .past x s);
     numbers = λ x s. g x s ∙ h .numbers x s;
     single = h .single;
@@ -38,7 +38,7 @@ module _ (number number′ : ℕ → ℕ) (now : ℕ) (l : List Entry) (h : Roll
   -- without the entry of m, where the numbers read of others are the same
   pub roll-without : (m : ℕ) → ((k : ℕ) → k ≢ m → number′ k ≡ number k) → Roll number′ now (keep (others m) l)
   roll-without m g = record {
-    once = once-keep (others m) l (h .once);
+    times = times-keep (others m) l (h .times);
     past = λ x s. h .past x (from x s .0);
     numbers = λ x s. g (x .id) (eqb-false (x .id) m (not-true _ (from x s .1))) ∙ h .numbers x (from x s .0);
     single = λ x y s t. h .single x y (from x s .0) (from y t .0);
@@ -70,7 +70,7 @@ module _ (number number′ : ℕ → ℕ) (now : ℕ) (l : List Entry) (h : Roll
     -- with it
     pub roll-add : Roll number′ (suc now) (l ++ (e ∷ []))
     roll-add = record {
-      once = once-add l e (h .once) earlier;
+      times = times-add l e (h .times) earlier;
       past = λ x s. past-add x (in-add x e l .0 s);
       numbers = λ x s. numbers-add x (in-add x e l .0 s);
       single = λ x y s t. single-add x y (in-add x e l .0 s) (in-add y e l .0 t);

@@ -23,7 +23,6 @@ use Rattle.kept.specs.After.{orderAfter}
 use Rattle.kept.specs.Claims.{Sizes}
 use Rattle.kept.proofs.Reading.{cond-holds}
 use Rattle.kept.proofs.Holding.{isQueued, held-numbered, lowest-free}
-use Rattle.history.specs.Ranking as ranks
 use Rattle.history.specs.Ranking.{Entry}
 use Rattle.history.specs.Machine as plain
 use Rattle.history.specs.Machine.{Plain, Held, noBlock, withWhose}

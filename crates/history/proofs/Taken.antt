@@ -27,11 +27,10 @@ use Rattle.kept.specs.After.{changed}
 use Rattle.kept.specs.Claims.{Sizes}
 use Rattle.kept.proofs.Reading.{cond-holds, task-put, placed-numbered, queued-placed, queue-walked}
 use Rattle.kept.proofs.Relinked.{requeued-is}
-use Rattle.history.specs.Ranking as ranks
 use Rattle.history.specs.Ranking.{Entry, keep}
 use Rattle.history.specs.Machine as plain
 use Rattle.history.specs.Machine.{Plain}
-use Rattle.history.proofs.Entries.{once-keep}
+use Rattle.history.proofs.Entries.{times-keep}
 use Rattle.history.proofs.Names.{names-leads}
 use Rattle.history.proofs.Listed.{isAt}
 use Rattle.history.proofs.Named.{Named, named-take, named-cancel-message}
@@ -127,7 +126,7 @@ module _ (z : Size) (b : Board) (q : List ℕ) (f : ℕ → List ℕ) (a : Sizes
     -- what is left at r
     left-first : plain.first (plainOf o l now n) r ≡ task o r .mptr
     left-first =
-        names-leads (keep (isAt r) now) (changed f r left r) (once-keep (isAt r) now (taken-named .messages .once))
+        names-leads (keep (isAt r) now) (changed f r left r) (times-keep (isAt r) now (taken-named .messages .times))
         (taken-named .queues r d)
         ∙ ap (λ (t : Bool). firstOf (cond t left (f r))) (eq-eqb r r refl)
         ∙ ap (λ (g : List ℕ). firstOf (without (suc m) g)) (sym (queue-walked z b q f h r d))

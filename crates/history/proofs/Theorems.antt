@@ -16,7 +16,7 @@ use Rattle.history.specs.Machine.{Plain, start, step}
 use Rattle.history.specs.Claims.{OneRanking, Agrees, past, AllFit, LinksAgree}
 use Rattle.history.proofs.Ranks as ranks
 use Rattle.history.proofs.Listed.{isAt}
-use Rattle.history.proofs.Asked.{asked-running, places-say}
+use Rattle.history.proofs.Asked.{asked-running, is-where}
 use Rattle.history.proofs.Same.{same-holds}
 use Rattle.history.proofs.Steps.{Agreeing, call-agrees}
 use Rattle.history.proofs.Fresh.{fresh-agrees}
@@ -36,8 +36,8 @@ agreeing-agrees z a l p t =
     same-holds z b q f p (Agrees z l) (t .same) (λ i s n w. record {
       tasks = λ k. refl;
       messages = λ m. refl;
-      places = λ m. places-say z b q f (t .settled) m;
-      once = (w .tasks .once, w .messages .once);
+      places = λ m. is-where z b q f (t .settled) m;
+      times = (w .tasks .times, w .messages .times);
       order = subst (Names i) (sym (order-walked z b q f (t .settled) (a .limit))) (w .order);
       queues = λ k d. subst (Names (keep (isAt k) s)) (sym (queue-walked z b q f (t .settled) k d)) (w .queues k d);
       runs = sym (asked-running z b q f a (t .settled) i s n w);

@@ -28,7 +28,7 @@ use Rattle.paper.specs.History as bytes
 use Rattle.linked.specs.Linked.{Numbered}
 use Rattle.kept.specs.Settled.{Fitting}
 use Rattle.kept.specs.Claims.{Sizes}
-use Rattle.history.specs.Ranking.{Entry, keep, Ranking, Once, Names}
+use Rattle.history.specs.Ranking.{Entry, keep, Ranking, DifferentTimes, Names}
 use Rattle.history.specs.Machine.{Sheet, Block, Whose, Free, Held, Queued, Plain, start, step, running}
 
 -- ---- the ranking is one
@@ -38,26 +38,26 @@ pub record Ranked (l : List Entry) : Type 0 where
   pub only : (q : List Entry) → Ranking l q → q ≡ list
 
 abbrev pub OneRanking : Type 0
-OneRanking = (l : List Entry) → Once l → Ranked l
+OneRanking = (l : List Entry) → DifferentTimes l → Ranked l
 
 -- ---- a board and the machine
 abbrev pub sheetOf : Task → Sheet
 sheetOf t = record { stat = t .stat; prio = t .prio; sptr = t .sptr; name = t .name }
 
 abbrev pub blockOf : Message → Block
-blockOf r = record { stat = r .stat; prio = r .prio; rptr = r .rptr; sptr = r .sptr }
+blockOf u = record { stat = u .stat; prio = u .prio; rptr = u .rptr; sptr = u .sptr }
 
-abbrev pub Says : Place → Whose → Type 0
-Says places.Free w = w ≡ Free
-Says (places.HeldBy k) w = w ≡ Held (k .0)
-Says (places.QueuedAt k) w = w ≡ Queued (k .0)
-Says (places.Nowhere p) w = ⊥
+abbrev pub IsWhere : Place → Whose → Type 0
+IsWhere places.Free w = w ≡ Free
+IsWhere (places.HeldBy k) w = w ≡ Held (k .0)
+IsWhere (places.QueuedAt k) w = w ≡ Queued (k .0)
+IsWhere (places.Nowhere p) w = ⊥
 
 pub record Agrees (z : Size) (l : List ℕ) (p : Plain) : Type 0 where
   pub tasks : (k : ℕ) → sheetOf (task (boardOf z l) k) ≡ p .sheets k
   pub messages : (m : ℕ) → blockOf (message (boardOf z l) m) ≡ p .blocks m
-  pub places : (m : ℕ) → Says (place (boardOf z l) m) (p .whose m)
-  pub once : Once (p .installs) × Once (p .placements)
+  pub places : (m : ℕ) → IsWhere (place (boardOf z l) m) (p .whose m)
+  pub times : DifferentTimes (p .installs) × DifferentTimes (p .placements)
   pub order : Names (p .installs) (order z (boardOf z l))
   pub queues : (k : ℕ) → Numbered (z .tasks) k → Names (keep (λ e. eqb (e .at) k) (p .placements)) (queue z (boardOf z l) k)
   pub runs : rules.running z (boardOf z l) ≡ running p

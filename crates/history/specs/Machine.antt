@@ -57,7 +57,7 @@ abbrev pub noBlock : Block
 noBlock = record { stat = 0; prio = 0; rptr = 0; sptr = 0 }
 
 abbrev pub machine : (ℕ → Sheet) → (ℕ → Block) → (ℕ → Whose) → List Entry → List Entry → ℕ → Plain
-machine s b w i l n = record { sheets = s; blocks = b; whose = w; installs = i; placements = l; clock = n }
+machine t u w i l n = record { sheets = t; blocks = u; whose = w; installs = i; placements = l; clock = n }
 
 abbrev pub start : Plain
 start = machine (λ k. noSheet) (λ m. noBlock) (λ m. Free) [] [] 0
@@ -67,10 +67,10 @@ abbrev pub upd : {A : Type 0} → (ℕ → A) → ℕ → A → ℕ → A
 upd f k x j = cond (eqb j k) x (f j)
 
 abbrev pub withSheet : Plain → ℕ → Sheet → Plain
-withSheet p k s = machine (upd (p .sheets) k s) (p .blocks) (p .whose) (p .installs) (p .placements) (p .clock)
+withSheet p k t = machine (upd (p .sheets) k t) (p .blocks) (p .whose) (p .installs) (p .placements) (p .clock)
 
 abbrev pub withBlock : Plain → ℕ → Block → Plain
-withBlock p m b = machine (p .sheets) (upd (p .blocks) m b) (p .whose) (p .installs) (p .placements) (p .clock)
+withBlock p m u = machine (p .sheets) (upd (p .blocks) m u) (p .whose) (p .installs) (p .placements) (p .clock)
 
 abbrev pub withWhose : Plain → ℕ → Whose → Plain
 withWhose p m w = machine (p .sheets) (p .blocks) (upd (p .whose) m w) (p .installs) (p .placements) (p .clock)
@@ -134,36 +134,41 @@ lowestFree z p = lowestFrom (λ m. isFree (p .whose m)) 1 (z .messages)
 abbrev pub holdsOne : Size → Plain → ℕ → Bool
 holdsOne z p k = not (eqb (lowestFrom (λ m. isHeld k (p .whose m)) 1 (z .messages)) 0)
 
--- ---- effects
+-- ---- effects, as document 01 has them
+-- Place m at r: recorded with the queue type it has; then bit 0 is set, and r wakes if it waited for a message
 abbrev pub place : Plain → ℕ → ℕ → Plain
 place p m r =
-    let t = p .blocks m in
-    let e : Entry = record { id = m; at = r; number = number (t .prio); fifo = fifo (t .prio); time = p .clock } in
+    let u = p .blocks m in
+    let e : Entry = record { id = m; at = r; number = number (u .prio); fifo = fifo (u .prio); time = p .clock } in
     let q = withWhose (withPlacements (tick p) (p .placements ++ (e ∷ []))) m (Queued r) in
-    let w = withBlock q m (record { stat = t .stat; prio = withFifo (t .prio); rptr = t .rptr; sptr = t .sptr }) in
+    let w = withBlock q m (record { stat = u .stat; prio = withFifo (u .prio); rptr = u .rptr; sptr = u .sptr }) in
     cond (has (p .sheets r .stat) WAIT) (sets (clears w r WAIT) r MHBS) w
 
+-- Send: priority 127 becomes c's, its queue type stays; RPTR is r; SPTR is c if it was 0
 abbrev pub addressed : Plain → ℕ → ℕ → ℕ → Plain
-addressed p c m r = let t = p .blocks m in
+addressed p c m r = let u = p .blocks m in
     withBlock p m (record {
-      stat = t .stat;
-      prio = cond (eqb (number (t .prio)) 127) (2 * number (p .sheets c .prio) + t .prio % 2) (t .prio);
+      stat = u .stat;
+      prio = cond (eqb (number (u .prio)) 127) (2 * number (p .sheets c .prio) + u .prio % 2) (u .prio);
       rptr = r;
-      sptr = cond (eqb (t .sptr) 0) c (t .sptr);
+      sptr = cond (eqb (u .sptr) 0) c (u .sptr);
     })
 
+-- Wait forms, and receive and wait: c is due a message if one is queued, else waits for one
 abbrev pub waits : ℕ → Plain → Plain
 waits c p = sets p c (cond (eqb (first p c) 0) WAIT MHBS)
 
--- c takes message m out of whatever queue it is in; nothing where m is 0
+-- Receive, and dispatch: c takes message m out of whatever queue it is in; nothing where m is 0
 abbrev pub take : Plain → ℕ → ℕ → Plain
 take p c zero = p
 take p c (suc m) = withWhose (withPlacements p (keep (λ e. not (eqb (e .id) (suc m))) (p .placements))) (suc m) (Held c)
 
+-- Cancel message: a task that was due a message and has none left waits again
 abbrev pub cancelMessage : Plain → ℕ → ℕ → ℕ → Plain
 cancelMessage p c m r = let q = take p c m in
     cond (has (q .sheets r .stat) MHBS && eqb (first q r) 0) (sets (clears q r MHBS) r WAIT) q
 
+-- Install, cancel task
 abbrev pub install : Plain → ℕ → ℕ → ℕ → ℕ → ℕ → Plain
 install p k s prio sptr name =
     let e : Entry = record { id = k; at = 0; number = number prio; fifo = true; time = p .clock } in
@@ -172,12 +177,14 @@ install p k s prio sptr name =
 abbrev pub cancelTask : Plain → ℕ → Plain
 cancelTask p k = withSheet (withInstalls p (keep (λ e. not (eqb (e .id) k)) (p .installs))) k noSheet
 
+-- Post interrupt, wait for interrupt
 abbrev pub post : Plain → ℕ → Plain
 post p k = cond (has (p .sheets k .stat) IWAT) (clears p k IWAT) (sets p k INTQ)
 
 abbrev pub waitInterrupt : Plain → ℕ → Plain
 waitInterrupt p c = cond (has (p .sheets c .stat) INTQ) (clears p c INTQ) (sets p c IWAT)
 
+-- Claim, release, prepare
 abbrev pub claim : Size → Plain → ℕ → Plain
 claim z p c = withWhose p (lowestFree z p) (Held c)
 
@@ -187,6 +194,7 @@ release p m = withWhose (withBlock p m noBlock) m Free
 abbrev pub prepare : Plain → ℕ → ℕ → ℕ → ℕ → Plain
 prepare p m s prio sptr = withBlock p m (record { stat = s; prio = prio; rptr = p .blocks m .rptr; sptr = sptr })
 
+-- Find
 abbrev pub find : Plain → ℕ → ℕ
 find p name = foremost (λ e. eqb (p .sheets (e .id) .name) name) (p .installs)
 

@@ -3,15 +3,16 @@
 --   ahead x y           x goes ahead of y: the lower priority number first; of equals the later goes ahead if it was LIFO, behind if FIFO
 --   foremost test l     the one of l that passes the test and that none other that does goes ahead of; 0 if none does
 --   Ranking l q         q has just the entries of l, each ahead of all behind it; Names l n: the numbers n name the ranking of l
+--   DifferentTimes l    no two of l were made at one time
 -- A task's entry has no task it is placed at, and is FIFO: of two equal tasks the earlier installed goes first.
 -- Assumes nothing.
 use mathlib.Core.Path.{_≡_}
-use mathlib.Core.Logic.{_≢_, _⊎_, _↔_}
+use mathlib.Core.Logic.{_≢_, _↔_}
 use mathlib.Core.Bool.{Bool, true, cond, not, _&&_, _||_}
 use mathlib.Core.List.{List, [], _∷_, map}
 use Prim.Native.Nat.{ℕ}
 use lib.Dec.{eqb, ltb}
-use Rattle.links.specs.Chain.{In}
+use Rattle.links.specs.Chain.{In, All}
 
 pub record Entry : Type 0 where
   pub id : ℕ
@@ -46,8 +47,7 @@ foremost test l = leads (keep test l)
 
 -- ---- the whole ranking
 abbrev pub AheadOf : Entry → List Entry → Type 0
-AheadOf x [] = Unit {0}
-AheadOf x (y ∷ q) = (ahead x y ≡ true) × AheadOf x q
+AheadOf x q = All (λ y. ahead x y ≡ true) q
 
 abbrev pub InOrder : List Entry → Type 0
 InOrder [] = Unit {0}
@@ -57,10 +57,9 @@ pub record Ranking (l q : List Entry) : Type 0 where
   pub same : (x : Entry) → In x q ↔ In x l
   pub order : InOrder q
 
--- no two were made at one time
-abbrev pub Once : List Entry → Type 0
-Once [] = Unit {0}
-Once (x ∷ l) = ((y : Entry) → In y l → y .time ≢ x .time) × Once l
+abbrev pub DifferentTimes : List Entry → Type 0
+DifferentTimes [] = Unit {0}
+DifferentTimes (x ∷ l) = ((y : Entry) → In y l → y .time ≢ x .time) × DifferentTimes l
 
 -- the numbers q name the ranking of the entries l
 pub record Names (l : List Entry) (q : List ℕ) : Type 0 where
