@@ -18,7 +18,8 @@ use Rattle.board.specs.Writes.{start, putIn}
 use Rattle.board.proofs.Numbered.{nth-beyond, put-beyond}
 
 -- ---- the test of a number
-neither : (s t : Bool) → (s || t) ≡ false → (s ≡ false) × (t ≡ false)
+-- of two tests neither passes
+pub neither : (s t : Bool) → (s || t) ≡ false → (s ≡ false) × (t ≡ false)
 neither true t e = absurd (true≢false e)
 neither false t e = (refl, e)
 

@@ -1,6 +1,6 @@
 -- Where a message is: document 01's place byte. A reader must believe this file.
 --   placeOf z p         what the place byte p says on a board of size z; placeByte the byte that says it
---   isFree, isHeldBy k, isQueuedAt k   the place is that
+--   isFree, isHeldBy k, isQueuedAt k   the place is that; isQueued: queued at whomever
 -- Assumes nothing.
 use mathlib.Core.Bool.{Bool, true, false, cond}
 use mathlib.Core.List.{List, [], _∷_}
@@ -49,3 +49,9 @@ isQueuedAt r Free = false
 isQueuedAt r (HeldBy k) = false
 isQueuedAt r (QueuedAt k) = eqb (k .0) r
 isQueuedAt r (Nowhere p) = false
+
+abbrev pub isQueued : Place → Bool
+isQueued Free = false
+isQueued (HeldBy k) = false
+isQueued (QueuedAt k) = true
+isQueued (Nowhere p) = false

@@ -23,9 +23,10 @@ use Rattle.paper.specs.Effects.{lowestFree, find}
 use Rattle.paper.specs.Refusals.{holdsOne}
 use Rattle.linked.specs.Linked.{Numbered}
 use Rattle.linked.specs.Sound.{PlaceGood}
+use Rattle.linked.proofs.Running.{placed-numbered}
 use Rattle.kept.specs.Settled as kept
 use Rattle.kept.specs.Claims.{Sizes}
-use Rattle.kept.proofs.Reading.{order-walked, queue-walked, placed-numbered}
+use Rattle.kept.proofs.Reading.{order-walked, queue-walked}
 use Rattle.history.specs.Ranking.{Entry, keep}
 use Rattle.history.specs.Machine as plain
 use Rattle.history.specs.Machine.{Whose, lowestFrom}

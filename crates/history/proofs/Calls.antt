@@ -11,7 +11,7 @@ use Rattle.board.specs.declared.places.Place.the-variants.{HeldBy}
 use Rattle.board.specs.Numbers.{outside, taskNo}
 use Rattle.board.specs.Places.{isQueuedAt}
 use Rattle.board.specs.Board.{Board, message, place}
-use Rattle.board.proofs.Pieces.{outside-within}
+use Rattle.board.proofs.Pieces.{outside-within, neither}
 use Rattle.paper.specs.declared.call.Call.{Call}
 use Rattle.paper.specs.declared.call.Call.the-variants.{Install, PostInterrupt, Find, CancelTask, Claim, Prepare, Release}
 use Rattle.paper.specs.declared.call.Call.the-variants.{Send, SendAndWait, Resend, ResendAndWait, Forward, ForwardAndWait, Return, ReturnAndWait}
@@ -22,10 +22,11 @@ use Rattle.paper.specs.Refusals.{Test, no3, no4, no5, no6, no7, no7Install, no8
 use Rattle.paper.specs.Outcomes.{Undispatched, undispatched, body}
 use Rattle.linked.specs.Linked.{Numbered}
 use Rattle.linked.proofs.Tests.{says-isQueuedAt}
+use Rattle.linked.proofs.Running.{runner-says}
 use Rattle.kept.specs.Settled.{Settled}
 use Rattle.kept.specs.After.{placed, sent, orderAfter, queuesAfter}
 use Rattle.kept.specs.Claims.{Sizes}
-use Rattle.kept.proofs.Reading.{runner-says, go-passed, neither, runner-passed, held-row, task-passed}
+use Rattle.kept.proofs.Reading.{go-passed, runner-passed, held-row, task-passed}
 use Rattle.kept.proofs.Waiting.{task-numbered}
 use Rattle.kept.proofs.Placing.{send-settled, forward-settled}
 use Rattle.history.specs.Ranking.{Entry}

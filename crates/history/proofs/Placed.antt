@@ -18,6 +18,7 @@ use Rattle.board.specs.Status.{WAIT, MHBS, number, fifo}
 use Rattle.board.specs.Records.{withPrio, withRptr, withSptr}
 use Rattle.board.specs.Board.{Board, task, message, place}
 use Rattle.board.proofs.Numbered.{length-put}
+use Rattle.board.specs.Places.{isQueued}
 use Rattle.paper.specs.Rules.{messageNumber}
 use Rattle.paper.specs.Changes.{sets}
 use Rattle.paper.specs.Effects.{placeAt, ownPrio, addressed, send, waits}
@@ -26,7 +27,7 @@ use Rattle.kept.specs.Settled.{Settled}
 use Rattle.kept.specs.After.{changed, placed, sent}
 use Rattle.kept.specs.Claims.{Sizes}
 use Rattle.kept.proofs.Reading.{message-put, message-other}
-use Rattle.kept.proofs.Holding.{isQueued, unqueued-out, held-numbered}
+use Rattle.kept.proofs.Holding.{unqueued-out, held-numbered}
 use Rattle.history.specs.Ranking.{Entry}
 use Rattle.history.specs.Machine as plain
 use Rattle.history.specs.Machine.{Plain}

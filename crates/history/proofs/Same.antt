@@ -14,15 +14,17 @@ use Rattle.board.specs.Numbers.{taskNo}
 use Rattle.board.specs.Status.{IWAT, INTQ, has}
 use Rattle.board.specs.Records.{noMessage}
 use Rattle.board.specs.Board.{Board, task, place, withMessage}
+use Rattle.board.specs.Places.{isQueued}
 use Rattle.paper.specs.declared.call.Call.the-variants.{Install, CancelTask}
 use Rattle.paper.specs.Rules.{present}
 use Rattle.paper.specs.Effects.{install, cancelTask, post, waitInterrupt, lowestFree, claim, release, prepare}
 use Rattle.linked.specs.Linked.{Numbered}
+use Rattle.linked.proofs.Running.{lowest-free}
 use Rattle.kept.specs.Settled.{Settled}
 use Rattle.kept.specs.After.{orderAfter}
 use Rattle.kept.specs.Claims.{Sizes}
 use Rattle.kept.proofs.Reading.{cond-holds}
-use Rattle.kept.proofs.Holding.{isQueued, held-numbered, lowest-free}
+use Rattle.kept.proofs.Holding.{held-numbered}
 use Rattle.history.specs.Ranking.{Entry}
 use Rattle.history.specs.Machine as plain
 use Rattle.history.specs.Machine.{Plain, Held, noBlock, withWhose}

@@ -10,7 +10,8 @@ use Rattle.board.specs.declared.numbers.Size.{Size}
 use Rattle.board.specs.Board.{Board, total, boardOf}
 use Rattle.paper.specs.declared.call.Call.{Call}
 use Rattle.paper.specs.Rules.{running, passes}
-use Rattle.paper.specs.Refusals.{Test, no1, no2, ownRow, row, Verdict, Go, Stop, lowest}
+use Rattle.paper.proofs.Rows.{row-own}
+use Rattle.paper.specs.Refusals.{Test, ownRow, row, Verdict, Go, Stop, lowest}
 use Rattle.paper.specs.Outcomes as paper
 use Rattle.kept.specs.Settled.{Settled, Fitting}
 use Rattle.kept.specs.After.{orderAfter, queuesAfter}
@@ -55,10 +56,6 @@ dispatched-ends z o r t =
       same = subst (λ (b : Board). Same z b (t .order) (t .queues) (r .plain)) (sym e) (t .same);
     }
 
--- a test that doesn't apply
-lowest-passed : (t : Test) (tests : List Test) → t .applies ≡ false → lowest (t ∷ tests) ≡ lowest tests
-lowest-passed t tests e = rw (e, lowest)
-
 -- ---- a call
 module _ (z : Size) (a : Sizes z) (bytes : List ℕ) (call : Call) (fits : Fitting call) (long : length bytes ≡ total z)
     (sound : passes z (boardOf z bytes) ≡ true) (q : List ℕ) (f : ℕ → List ℕ) (h : Settled z (boardOf z bytes) q f)
@@ -80,12 +77,6 @@ module _ (z : Size) (a : Sizes z) (bytes : List ℕ) (call : Call) (fits : Fitti
 
   alike : Alike z (ownRow z b c call) d (orderAfter b q call) (queuesAfter b c f call) e
   alike = calls-alike z b q f a h l s n w call
-
-  -- refusals 1 and 2 don't apply
-  row-own : lowest (row z bytes b c call) ≡ lowest (ownRow z b c call)
-  row-own =
-      lowest-passed (no1 z bytes) (no2 z b ∷ ownRow z b c call) (ap not (eq-eqb (length bytes) (total z) long))
-      ∙ lowest-passed (no2 z b) (ownRow z b c call) (ap not sound)
 
   -- the body, and then dispatch
   went : lowest (ownRow z b c call) ≡ Go → Ended z (paper.dispatch z bytes d) (plain.dispatch p e)
@@ -119,7 +110,7 @@ module _ (z : Size) (a : Sizes z) (bytes : List ℕ) (call : Call) (fits : Fitti
   effect-ends =
       subst (λ (r : Result). Ended z (paper.effect z bytes call) r) step-judged
       (subst (λ (v : Verdict). Ended z (paper.judge bytes v (paper.dispatch z bytes d))
-      (plain.judged p (lowest (ownRow z b c call)) (plain.dispatch p e))) (sym row-own)
+      (plain.judged p (lowest (ownRow z b c call)) (plain.dispatch p e))) (sym (row-own z bytes b c call long sound))
       (judged-ends (lowest (ownRow z b c call)) refl))
 
 -- bytes and machine that agree give one answer to a call that fits, and agree afterwards

@@ -11,6 +11,7 @@ use borrow.Author.Tests.{eqb-true, eq-eqb}
 use Rattle.links.specs.Queue.{firstOf, restOf, without}
 use Rattle.links.specs.Chain.{In}
 use Rattle.links.proofs.Chains.{chain-one}
+use Rattle.links.proofs.Removal.{rest-without}
 use Rattle.board.specs.declared.numbers.Size.{Size}
 use Rattle.board.specs.declared.records.Task.{Task}
 use Rattle.board.specs.declared.places.Place.the-variants.{QueuedAt}
@@ -22,10 +23,11 @@ use Rattle.paper.specs.Rules.{nextMessage, queue}
 use Rattle.paper.specs.Changes.{sets, clears, withQueue, hold, takeFirst}
 use Rattle.paper.specs.Effects.{cancelMessage}
 use Rattle.linked.specs.Linked.{Numbered}
+use Rattle.linked.proofs.Running.{placed-numbered}
 use Rattle.kept.specs.Settled.{Settled}
 use Rattle.kept.specs.After.{changed}
 use Rattle.kept.specs.Claims.{Sizes}
-use Rattle.kept.proofs.Reading.{cond-holds, task-put, placed-numbered, queued-placed, queue-walked}
+use Rattle.kept.proofs.Reading.{cond-holds, task-put, queued-placed, queue-walked}
 use Rattle.kept.proofs.Relinked.{requeued-is}
 use Rattle.history.specs.Ranking.{Entry, keep}
 use Rattle.history.specs.Machine as plain
@@ -37,11 +39,6 @@ use Rattle.history.proofs.Named.{Named, named-take, named-cancel-messag
 use Rattle.history.proofs.Machines.{plainOf, length-tasks, plain-queue, plain-hold, plain-emptied}
 use Rattle.history.proofs.Asked.{asked-first, first-mptr, first-walked, entry-queued}
 use Rattle.history.proofs.Same.{Same, same-at}
-
--- what is left without the first
-rest-without : (q : List ℕ) → without (firstOf q) q ≡ restOf q
-rest-without [] = refl
-rest-without (x ∷ q) = rw (eq-eqb x x refl, without)
 
 module _ (z : Size) (b : Board) (q : List ℕ) (f : ℕ → List ℕ) (a : Sizes z) (h : Settled z b q f)
     (l s : List Entry) (n : ℕ) (w : Named z (plainOf b l s n) q f) where

@@ -21,10 +21,10 @@ use Rattle.board.proofs.Codec.{length-tasks}
 use Rattle.paper.specs.declared.answer.Refusal.{Refusal}
 use Rattle.paper.specs.Rules.{present, running}
 use Rattle.paper.specs.Refusals.{Test, no3, no4, no5, no6, Verdict, Go, Stop, lowest}
-use Rattle.kept.proofs.Reading.{present-numbered, runner-says}
 use Rattle.inner.specs.declared.step.Held.{Held}
 use Rattle.inner.specs.declared.step.Held.the-variants as held
 use Rattle.inner.specs.Inner.{heldBy, heldOf, presentMeant}
+use Rattle.linked.proofs.Running.{present-numbered, runner-says}
 
 -- ---- one test
 -- a test that applies stops

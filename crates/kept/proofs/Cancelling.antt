@@ -20,17 +20,19 @@ use Rattle.board.specs.Records.{noTask, taskWithLink}
 use Rattle.board.specs.Places.{isHeldBy}
 use Rattle.board.specs.Board.{Board, task, place, put, withFirst, withTasks, withTask}
 use Rattle.board.proofs.Numbered.{put-comm}
+use Rattle.board.proofs.Pieces.{neither}
 use Rattle.paper.specs.declared.call.Call.the-variants.{CancelTask}
 use Rattle.paper.specs.Rules.{isThere, present, nextTask, nextMessage, emptyQueue, taskNumber}
 use Rattle.paper.specs.Changes.{linkTask, withOrder}
 use Rattle.paper.specs.Effects.{cancelTask}
 use Rattle.paper.specs.Refusals.{no3, no6, holdsOne, no10, ownRow, Go, lowest}
 use Rattle.linked.specs.Linked.{Numbered}
+use Rattle.linked.proofs.Running.{present-numbered, which-none}
 use Rattle.kept.specs.Settled.{Settled}
 use Rattle.kept.specs.After.{orderAfter}
 use Rattle.kept.specs.Claims.{Sizes}
-use Rattle.kept.proofs.Reading.{task-put, task-other, present-numbered, sorted-stays}
-use Rattle.kept.proofs.Reading.{good-stays, which-none, order-walked, go-passed, neither, task-passed}
+use Rattle.kept.proofs.Reading.{task-put, task-other, sorted-stays}
+use Rattle.kept.proofs.Reading.{good-stays, order-walked, go-passed, task-passed}
 use Rattle.kept.proofs.Flagging.{flags-ready}
 use Rattle.kept.proofs.Installing.{settled-order}
 

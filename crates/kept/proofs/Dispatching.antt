@@ -18,8 +18,9 @@ use Rattle.paper.specs.Outcomes.{accepted, Undispatched, undispatched, dispatch
 use Rattle.kept.specs.Settled.{Settled}
 use Rattle.kept.specs.After.{changed}
 use Rattle.kept.specs.Claims.{Sizes}
-use Rattle.kept.proofs.Reading.{task-put, task-alike, present-numbered, order-walked, runner-says}
+use Rattle.kept.proofs.Reading.{task-put, task-alike, order-walked}
 use Rattle.kept.proofs.Taking.{take-stat, due-queued, deliver-settled}
+use Rattle.linked.proofs.Running.{present-numbered, runner-says}
 
 -- ---- a delivery
 module _ (z : Size) (b : Board) (order : List ℕ) (queues : ℕ → List ℕ) (sizes : Sizes z) (settled : Settled z b order queues)

@@ -24,10 +24,11 @@ use Rattle.paper.specs.Effects.{post, waitInterrupt}
 use Rattle.paper.specs.Refusals.{no3, no6, ownRow, Go, lowest}
 use Rattle.linked.specs.Linked.{Numbered, Linked}
 use Rattle.linked.specs.Sound.{Proper, PlaceGood, Flags}
+use Rattle.linked.proofs.Running.{present-numbered, runner-says}
 use Rattle.kept.specs.Settled.{Byte, FitsTask, Fits, Settled}
-use Rattle.kept.proofs.Reading.{cond-holds, nth-cases, task-put, task-other, task-alike, present-numbered, fits-task}
+use Rattle.kept.proofs.Reading.{cond-holds, nth-cases, task-put, task-other, task-alike, fits-task}
 use Rattle.kept.proofs.Reading.{listing-stays, listing-start, Lawful, present-proper, good-stays}
-use Rattle.kept.proofs.Reading.{runner-says, go-passed, runner-passed, task-passed}
+use Rattle.kept.proofs.Reading.{go-passed, runner-passed, task-passed}
 
 -- ---- flags that go together
 module _ (s : Status) (Empty : Type 0) where

@@ -18,7 +18,7 @@ use Rattle.board.specs.declared.places.Place.the-variants.{Free, HeldBy, Queued
 use Rattle.board.specs.Numbers.{taskNo}
 use Rattle.board.specs.Status.{number}
 use Rattle.board.specs.Records.{noMessage}
-use Rattle.board.specs.Places.{isFree}
+use Rattle.board.specs.Places.{isFree, isQueued}
 use Rattle.board.specs.Board.{Board, task, message, place, withMessage, withPlace}
 use Rattle.board.proofs.Codec.{place-held}
 use Rattle.paper.specs.declared.call.Call.the-variants.{Claim, Prepare, Release}
@@ -27,19 +27,14 @@ use Rattle.paper.specs.Effects.{lowestFree, claim, release, prepare}
 use Rattle.paper.specs.Refusals.{no3, no11, no14, ownRow, Go, lowest}
 use Rattle.linked.specs.Linked.{Numbered}
 use Rattle.linked.specs.Sound.{Pointers, PlaceGood}
+use Rattle.linked.proofs.Running.{present-numbered, placed-numbered, which-first, runner-says, lowest-free}
 use Rattle.kept.specs.Settled.{Byte, Word, FitsMessage, Settled, Fitting}
 use Rattle.kept.specs.Claims.{Sizes}
-use Rattle.kept.proofs.Reading.{nth-cases, message-put, message-other, present-numbered, placed-numbered, held-placed}
-use Rattle.kept.proofs.Reading.{FitsPlace, fits-message, fits-place, listing-stays, good-stays, which-first}
-use Rattle.kept.proofs.Reading.{runner-says, go-passed, runner-passed, held-row}
+use Rattle.kept.proofs.Reading.{nth-cases, message-put, message-other, held-placed}
+use Rattle.kept.proofs.Reading.{FitsPlace, fits-message, fits-place, listing-stays, good-stays}
+use Rattle.kept.proofs.Reading.{go-passed, runner-passed, held-row}
 
 -- ---- in no queue
-abbrev pub isQueued : Place → Bool
-isQueued Free = false
-isQueued (HeldBy k) = false
-isQueued (QueuedAt k) = true
-isQueued (Nowhere p) = false
-
 module _ (z : Size) (b : Board) (order : List ℕ) (queues : ℕ → List ℕ) (s : Settled z b order queues) (m : ℕ) where
   -- it is no member of any
   pub unqueued-out : isQueued (place b m) ≡ false → (k : ℕ) → Numbered (z .tasks) k → (y : ℕ) → In y (queues k) → y ≢ m
@@ -119,16 +114,6 @@ module _ (z : Size) (b : Board) (order : List ℕ) (queues : ℕ → List ℕ) (
       }
 
 -- ---- claim
-free-says : (p : Place) → isFree p ≡ true → p ≡ Free
-free-says Free e = refl
-free-says (HeldBy k) e = absurd (true≢false (sym e))
-free-says (QueuedAt k) e = absurd (true≢false (sym e))
-free-says (Nowhere p) e = absurd (true≢false (sym e))
-
--- the message that is claimed is one of the board's, and free
-pub lowest-free : (b : Board) → lowestFree b ≢ 0 → Numbered (length (b .places)) (lowestFree b) × (place b (lowestFree b) ≡ Free)
-lowest-free b h = let r = which-first Free isFree (b .places) h in (r .0, free-says (place b (lowestFree b)) (r .1))
-
 -- R4 lets a present task hold a message that was free
 free-held : (z : Size) (b : Board) (m c : ℕ) → present b c ≡ true → message b m ≡ noMessage → PlaceGood z b m (HeldBy (taskNo c))
 free-held z b m c p e = rw e (record { receiver = omega arith; sender = omega arith }, refl, p)

@@ -27,7 +27,7 @@ use Rattle.board.specs.Status.{WAIT, IWAT, BIT5, INTQ, MHBS, TCBB, stored, has,
 use Rattle.board.specs.Records.{noTask, taskWithLink}
 use Rattle.board.specs.Board.{Board, task, message, place, withTask}
 use Rattle.board.proofs.Numbered.{length-put}
-use Rattle.board.proofs.Pieces.{outside-within}
+use Rattle.board.proofs.Pieces.{outside-within, neither}
 use Rattle.paper.specs.declared.call.Call.the-variants.{Install}
 use Rattle.paper.specs.Rules.{isThere, present, nextTask, nextMessage, order, taskNumber, messageNumber, goodHead}
 use Rattle.paper.specs.Changes.{linkTask, withOrder}
@@ -36,12 +36,13 @@ use Rattle.paper.specs.Refusals.{no7Install, no8, no9, ownRow, Go, lowest}
 use Rattle.linked.specs.Linked.{Listing, Numbered}
 use Rattle.linked.specs.Sound.{Proper, PlaceGood}
 use Rattle.linked.proofs.Tests.{says-goodHead}
+use Rattle.linked.proofs.Running.{present-numbered}
 use Rattle.kept.specs.Settled.{Word, FitsTask, Fits, Settled, Fitting}
 use Rattle.kept.specs.After.{orderAfter}
 use Rattle.kept.specs.Claims.{Sizes}
-use Rattle.kept.proofs.Reading.{nth-cases, task-put, task-other, task-alike, present-numbered, fits-first, fits-task}
+use Rattle.kept.proofs.Reading.{nth-cases, task-put, task-other, task-alike, fits-first, fits-task}
 use Rattle.kept.proofs.Reading.{relink-keeps, first-holds, relink-holds, sorted-stays, listing-stays, listing-start}
-use Rattle.kept.proofs.Reading.{Lawful, absent-none, good-stays, order-walked, go-passed, neither}
+use Rattle.kept.proofs.Reading.{Lawful, absent-none, good-stays, order-walked, go-passed}
 use Rattle.kept.proofs.Flagging.{Flagged, flags-ready}
 
 -- ---- the task queue relinked

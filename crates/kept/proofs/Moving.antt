@@ -28,11 +28,12 @@ use Rattle.board.specs.Board.{Board, task, message, place, withMessage, withPla
 use Rattle.paper.specs.Rules.{present, isThere, nextTask, nextMessage, taskNumber, messageNumber}
 use Rattle.linked.specs.Linked.{Numbered, Listing}
 use Rattle.linked.specs.Sound.{Pointers, PlaceGood, Flags}
+use Rattle.linked.proofs.Running.{present-numbered, placed-numbered}
 use Rattle.kept.specs.Settled.{Word, FitsMessage, Fits, Settled}
 use Rattle.kept.specs.After.{changed}
 use Rattle.kept.specs.Claims.{Sizes}
 use Rattle.kept.proofs.Reading.{FitsPlace, Lawful, nth-cases, task-put, task-other, task-alike, message-put, place-put, place-other}
-use Rattle.kept.proofs.Reading.{present-numbered, placed-numbered, queued-placed, fits-message, fits-place}
+use Rattle.kept.proofs.Reading.{queued-placed, fits-message, fits-place}
 use Rattle.kept.proofs.Reading.{listing-stays, sorted-stays, present-proper, good-stays}
 use Rattle.kept.proofs.Flagging.{Flagged, SettledBut}
 use Rattle.kept.proofs.Waiting.{task-numbered, Pending}

@@ -21,7 +21,7 @@ use Rattle.board.specs.declared.places.Place.the-variants.{HeldBy, QueuedAt}
 use Rattle.board.specs.Numbers.{taskNo}
 use Rattle.board.specs.Status.{WAIT, IWAT, MHBS, TCBB, has, number, fifo, withFifo}
 use Rattle.board.specs.Records.{withPrio, withRptr, withSptr}
-use Rattle.board.specs.Places.{placeByte}
+use Rattle.board.specs.Places.{placeByte, isQueued}
 use Rattle.board.specs.Board.{Board, task, message, place, withMessage, withPlace}
 use Rattle.board.proofs.Bits.{number-withFifo, fifo-withFifo, withFifo-small}
 use Rattle.board.proofs.Codec.{place-queued}
@@ -31,12 +31,13 @@ use Rattle.paper.specs.Changes.{withQueue}
 use Rattle.paper.specs.Effects.{woken, placeAt, ownPrio, addressed, send, resend, forward, giveBack, waits}
 use Rattle.paper.specs.Refusals.{Test, no3, no4, no5, no6, no7, ownRow, Go, lowest}
 use Rattle.linked.specs.Linked.{Numbered}
+use Rattle.linked.proofs.Running.{runner-says}
 use Rattle.kept.specs.Settled.{Byte, Word, Settled}
 use Rattle.kept.specs.After.{changed, placed, sent, queuesAfter}
 use Rattle.kept.specs.Claims.{Sizes}
 use Rattle.kept.proofs.Reading.{cond-holds, task-alike, message-put, message-other, place-put, present-proper}
-use Rattle.kept.proofs.Reading.{queue-walked, runner-says, go-passed, runner-passed, held-passed, task-passed}
-use Rattle.kept.proofs.Holding.{isQueued, unqueued-out, held-numbered, held-good, settled-record}
+use Rattle.kept.proofs.Reading.{queue-walked, go-passed, runner-passed, held-passed, task-passed}
+use Rattle.kept.proofs.Holding.{unqueued-out, held-numbered, held-good, settled-record}
 use Rattle.kept.proofs.Relinked.{requeued, requeued-is}
 use Rattle.kept.proofs.Moving.{moved, Moved, moved-settled}
 use Rattle.kept.proofs.Waiting.{Idle, waits-settled, task-numbered, queued-starts, woken-stat, woken-settled}

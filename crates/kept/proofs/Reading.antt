@@ -1,5 +1,5 @@
--- What is read of a board after one change, for every number, and what then stays as it was; what the walks visit and who runs;
--- what a row that refuses nothing says.
+-- What is read of a board after one change, for every number, and what then stays as it was; what the walks visit; what a row that
+-- refuses nothing says.
 -- Assumes nothing.
 use mathlib.Core.Path.{_≡_, refl, sym, ap, _∙_, subst}
 use mathlib.Core.Logic.{_≢_, _⊎_, inl, inr, _↔_, Iff·rfl}
@@ -27,12 +27,12 @@ use Rattle.board.specs.Records.{noTask, noMessage}
 use Rattle.board.specs.Places.{placeOf, placeByte, isFree, isHeldBy, isQueuedAt}
 use Rattle.board.specs.Board.{Board, nth, put, task, message, place, withFirst, withTask, withMessage, withPlace}
 use Rattle.board.proofs.Numbered.{nth-put, nth-put-other, nth-alike, length-put}
-use Rattle.board.proofs.Pieces.{outside-within}
+use Rattle.board.proofs.Pieces.{outside-within, neither}
 use Rattle.paper.specs.Rules.{isThere, present, order, queue, ready, running}
 use Rattle.paper.specs.Refusals.{Test, no3, no4, no5, no6, Verdict, Go, Stop, lowest}
 use Rattle.linked.specs.Linked.{Listing, Numbered}
 use Rattle.linked.specs.Sound.{Proper, PlaceGood}
-use Rattle.linked.proofs.Tests.{says-isQueuedAt}
+use Rattle.linked.proofs.Tests.{says-isQueuedAt, says-isHeldBy}
 use Rattle.linked.proofs.Listings.{nth-numbered, which-nth, listing-walk}
 use Rattle.kept.specs.Settled.{Byte, FitsTask, FitsMessage, Fits, Settled}
 
@@ -72,10 +72,6 @@ pub task-alike : {A : Type 0} (f : Task → A) (b : Board) (k j : ℕ) (t : Task
     → f (task (withTask b k t) j) ≡ f (task b j)
 task-alike f b k j t e = nth-alike f noTask (b .tasks) k j t e
 
--- a present task is numbered
-pub present-numbered : (b : Board) (k : ℕ) → present b k ≡ true → Numbered (length (b .tasks)) k
-present-numbered b k p = nth-numbered noTask isThere (b .tasks) refl k p
-
 -- ---- one message written, one place written
 -- a message reads back
 pub message-put : (b : Board) (m : ℕ) (r : Message) → Numbered (length (b .messages)) m → message (withMessage b m r) m ≡ r
@@ -92,16 +88,6 @@ place-put b m p h = nth-put Free (b .places) m p (h .0) (h .1)
 -- others read as before
 pub place-other : (b : Board) (m j : ℕ) (p : Place) → j ≢ m → place (withPlace b m p) j ≡ place b j
 place-other b m j p h = nth-put-other Free (b .places) m j p h
-
-not-free : (p : Place) → p ≢ Free → not (isFree p) ≡ true
-not-free Free h = absurd (h refl)
-not-free (HeldBy k) h = refl
-not-free (QueuedAt k) h = refl
-not-free (Nowhere p) h = refl
-
--- a message that isn't free is numbered
-pub placed-numbered : (b : Board) (m : ℕ) → place b m ≢ Free → Numbered (length (b .places)) m
-placed-numbered b m h = nth-numbered Free (λ p. not (isFree p)) (b .places) refl m (not-free (place b m) h)
 
 -- held is not free
 pub held-placed : (b : Board) (m k : ℕ) → place b m ≡ HeldBy (taskNo k) → place b m ≢ Free
@@ -240,43 +226,7 @@ good-stays z b c m (HeldBy k) e h (p, l, t) = rw e (p, l, h (k .0) (inl refl) t)
 good-stays z b c m (QueuedAt k) e h (p, f, l, t) = rw e (p, f, l, h (k .0) (inr refl) t)
 good-stays z b c m (Nowhere p) e h k = k
 
--- ---- the first that passes a test
--- the first of a queue
-pub first-with : (f : ℕ → Bool) (q : List ℕ) → firstWith f q ≢ 0 → In (firstWith f q) q × (f (firstWith f q) ≡ true)
-first-with f [] h = absurd (h refl)
-first-with f (x ∷ q) h = step (f x) refl (first-with f q)
-  where
-    step : (t : Bool) → f x ≡ t → (firstWith f q ≢ 0 → In (firstWith f q) q × (f (firstWith f q) ≡ true))
-        → In (firstWith f (x ∷ q)) (x ∷ q) × (f (firstWith f (x ∷ q)) ≡ true)
-    step true e ih = rw (e, firstWith) (inl refl, e)
-    step false e ih = let r = ih (rw (e, firstWith) at h) in rw (e, firstWith) (inr (r .0), r .1)
-
-nth-behind : {A : Type 0} (none : A) (l : List A) (k : ℕ) → 1 ≤ k → getD l (k - 1) none ≡ nth none l k
-nth-behind none l zero h = absurd (omega arith)
-nth-behind none l (suc i) h = let e : suc i - 1 ≡ i = omega arith in ap (λ (j : ℕ). getD l j none) e
-
--- the first of a list, by its number
-pub which-first : {A : Type 0} (none : A) (f : A → Bool) (l : List A) → firstOf (which f 1 l) ≢ 0
-    → Numbered (length l) (firstOf (which f 1 l)) × (f (nth none l (firstOf (which f 1 l))) ≡ true)
-which-first none f l h = step (which f 1 l) (λ x. in-which none f 1 x l) h
-  where
-    step : (q : List ℕ) → ((x : ℕ) → In x q → (1 ≤ x) × (x < 1 + length l) × (f (getD l (x - 1) none) ≡ true)) → firstOf q ≢ 0
-        → Numbered (length l) (firstOf q) × (f (nth none l (firstOf q)) ≡ true)
-    step [] g h = absurd (h refl)
-    step (x ∷ q) g h =
-        let r = g x (inl refl) in
-        ((r .0, omega (arith, r .1)), ap f (sym (nth-behind none l x (r .0))) ∙ r .2)
-
--- where there is no first, none passes
-pub which-none : {A : Type 0} (none : A) (f : A → Bool) (l : List A) → f none ≡ false → firstOf (which f 1 l) ≡ 0
-    → (k : ℕ) → f (nth none l k) ≢ true
-which-none none f l d e k p = step (which f 1 l) (which-nth none f l d 0 .0) (which-nth none f l d k .1 p) e
-  where
-    step : (q : List ℕ) → (In 0 q → f none ≡ true) → In k q → firstOf q ≡ 0 → ⊥
-    step [] a i e = i
-    step (x ∷ q) a i e = true≢false (sym (a (inl (sym e))) ∙ d)
-
--- ---- what the walks visit, who runs
+-- ---- what the walks visit
 module _ (z : Size) (b : Board) (q : List ℕ) (queues : ℕ → List ℕ) (s : Settled z b q queues) where
   -- the walk from byte 0 visits the task queue
   pub order-walked : z .tasks ≤ z .messages → order z b ≡ q
@@ -291,24 +241,6 @@ module _ (z : Size) (b : Board) (q : List ℕ) (queues : ℕ → List ℕ) (s : 
       listing-walk Free (isQueuedAt k) (b .places) refl (λ m. says-isQueuedAt k (place b m)) n (queues k)
       (s .linked .messages k h)
 
--- a ready task is present and waits for nothing
-pub ready-says : (b : Board) (k : ℕ) → ready b k ≡ true
-    → (present b k ≡ true) × (has (task b k .stat) WAIT ≡ false) × (has (task b k .stat) IWAT ≡ false)
-ready-says b k e =
-    let s : Status = task b k .stat in
-    let r = both (isPresent s && not (has s WAIT)) (not (has s IWAT)) e in
-    let p = both (isPresent s) (not (has s WAIT)) (r .0) in
-    (p .0, not-true (has s WAIT) (p .1), not-true (has s IWAT) (r .1))
-
--- the running task is one of those walked, and ready
-pub runs : (z : Size) (b : Board) → running z b ≢ 0 → In (running z b) (order z b) × (ready b (running z b) ≡ true)
-runs z b h = first-with (ready b) (order z b) h
-
--- a running task is present and waits for nothing
-pub runner-says : (z : Size) (b : Board) → let c = running z b in
-    c ≢ 0 → (present b c ≡ true) × (has (task b c .stat) WAIT ≡ false) × (has (task b c .stat) IWAT ≡ false)
-runner-says z b h = ready-says b (running z b) (runs z b h .1)
-
 -- ---- a row that refuses nothing
 abbrev stops : Verdict → Bool
 stops Go = false
@@ -322,24 +254,13 @@ go-passed t tests g = step (t .applies) refl
     step true e = absurd (true≢false (ap stops (rw (e, lowest) at g)))
     step false e = (e, rw (e, lowest) at g)
 
--- of two neither applies
-pub neither : (s t : Bool) → s || t ≡ false → (s ≡ false) × (t ≡ false)
-neither true t e = absurd (true≢false e)
-neither false t e = (refl, e)
-
 -- 3: somebody runs
 pub runner-passed : (c : ℕ) → no3 c .applies ≡ false → c ≢ 0
 runner-passed c e = eqb-false c 0 e
 
-held-says : (c : ℕ) (p : Place) → isHeldBy c p ≡ true → p ≡ HeldBy (taskNo c)
-held-says c Free e = absurd (true≢false (sym e))
-held-says c (HeldBy k) e = ap (λ (n : ℕ). HeldBy (taskNo n)) (eqb-true (k .0) c e)
-held-says c (QueuedAt k) e = absurd (true≢false (sym e))
-held-says c (Nowhere p) e = absurd (true≢false (sym e))
-
 -- 5: the caller holds it
 pub held-passed : (b : Board) (c m : ℕ) → no5 b c m .applies ≡ false → place b m ≡ HeldBy (taskNo c)
-held-passed b c m e = held-says c (place b m) (not-false (isHeldBy c (place b m)) e)
+held-passed b c m e = says-isHeldBy c (place b m) .0 (not-false (isHeldBy c (place b m)) e)
 
 -- 3, 4 and 5 before others: the running task holds the message
 pub held-row : (z : Size) (b : Board) (c m : ℕ) (tests : List Test) → lowest (no3 c ∷ no4 z m ∷ no5 b c m ∷ tests) ≡ Go

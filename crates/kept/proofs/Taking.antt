@@ -13,7 +13,7 @@ use Rattle.links.specs.Queue.{firstOf, restOf, without}
 use Rattle.links.specs.Chain.{In, Once, Chain}
 use Rattle.links.proofs.Members.{out-not-in}
 use Rattle.links.proofs.Chains.{chain-once, walk-end}
-use Rattle.links.proofs.Removal.{in-without, out-without, once-without, sorted-without}
+use Rattle.links.proofs.Removal.{rest-without, in-without, out-without, once-without, sorted-without}
 use Rattle.board.specs.declared.numbers.Size.{Size}
 use Rattle.board.specs.declared.status.Status.{Status}
 use Rattle.board.specs.declared.records.Task.{Task}
@@ -23,7 +23,7 @@ use Rattle.board.specs.declared.places.Place.the-variants.{Free, HeldBy, Queued
 use Rattle.board.specs.Numbers.{taskNo}
 use Rattle.board.specs.Status.{MHBS, has, number}
 use Rattle.board.specs.Records.{noTask, taskWithMptr, withLink}
-use Rattle.board.specs.Places.{placeByte, isQueuedAt}
+use Rattle.board.specs.Places.{placeByte, isQueuedAt, isQueued}
 use Rattle.board.specs.Board.{Board, task, message, place, withTasks, withTask}
 use Rattle.board.proofs.Numbered.{put-nth}
 use Rattle.board.proofs.Codec.{place-held}
@@ -34,12 +34,13 @@ use Rattle.paper.specs.Effects.{emptied, cancelMessage}
 use Rattle.paper.specs.Refusals.{no3, no4, no6, no12, no13, ownRow, Go, lowest}
 use Rattle.linked.specs.Linked.{Numbered}
 use Rattle.linked.specs.Sound.{PlaceGood}
+use Rattle.linked.proofs.Tests.{says-isQueuedAt}
+use Rattle.linked.proofs.Running.{placed-numbered, runner-says}
 use Rattle.kept.specs.Settled.{Settled}
 use Rattle.kept.specs.After.{changed, queuesAfter}
 use Rattle.kept.specs.Claims.{Sizes}
-use Rattle.kept.proofs.Reading.{cond-holds, message-put, placed-numbered, queued-placed}
-use Rattle.kept.proofs.Reading.{queue-walked, runner-says, go-passed, runner-passed, task-passed}
-use Rattle.kept.proofs.Holding.{isQueued}
+use Rattle.kept.proofs.Reading.{cond-holds, message-put, queued-placed}
+use Rattle.kept.proofs.Reading.{queue-walked, go-passed, runner-passed, task-passed}
 use Rattle.kept.proofs.Relinked.{requeued, requeued-is, requeued-stat, requeued-alike}
 use Rattle.kept.proofs.Waiting.{Pending, queue-awake, task-numbered, queued-starts, stays-settled, emptied-settled, delivered-settled}
 use Rattle.kept.proofs.Moving.{Moved, moved-settled}
@@ -97,11 +98,6 @@ module _ (z : Size) (b : Board) (order : List ℕ) (queues : ℕ → List ℕ) (
       (moved-settled z b order queues sizes settled r q m w (HeldBy (taskNo c)) out-move)
 
 -- ---- the first of its own queue
--- what is left without the first
-rest-without : (q : List ℕ) → without (firstOf q) q ≡ restOf q
-rest-without [] = refl
-rest-without (x ∷ q) = rw (eq-eqb x x refl, without)
-
 -- no status changes
 pub take-stat : (z : Size) (b : Board) (c k : ℕ) → task (takeFirst z b c) k .stat ≡ task b k .stat
 take-stat z b c k = requeued-stat b c (restOf (queue z b c)) k
@@ -179,10 +175,7 @@ module _ (z : Size) (b : Board) (order : List ℕ) (queues : ℕ → List ℕ) (
 -- ---- the calls
 -- 12: the message is queued at the task meant
 pub queued-passed : (r : ℕ) (p : Place) → not (isQueuedAt r p) ≡ false → p ≡ QueuedAt (taskNo r)
-queued-passed r Free e = absurd (true≢false e)
-queued-passed r (HeldBy k) e = absurd (true≢false e)
-queued-passed r (QueuedAt k) e = ap (λ (n : ℕ). QueuedAt (taskNo n)) (eqb-true (k .0) r (not-false (eqb (k .0) r) e))
-queued-passed r (Nowhere p) e = absurd (true≢false e)
+queued-passed r p e = says-isQueuedAt r p .0 (not-false (isQueuedAt r p) e)
 
 module _ (z : Size) (b : Board) (order : List ℕ) (queues : ℕ → List ℕ) (sizes : Sizes z) (settled : Settled z b order queues) where
   -- receive: the first of its queue, or none

@@ -24,8 +24,9 @@ use Rattle.paper.specs.Effects.{woken, waits, emptied}
 use Rattle.paper.specs.Refusals.{no3, ownRow, Go, lowest}
 use Rattle.linked.specs.Linked.{Numbered, Linked}
 use Rattle.linked.specs.Sound.{Flags}
+use Rattle.linked.proofs.Running.{present-numbered, runner-says}
 use Rattle.kept.specs.Settled.{Settled}
-use Rattle.kept.proofs.Reading.{cond-holds, task-put, task-other, task-alike, present-numbered, runner-says, go-passed, runner-passed}
+use Rattle.kept.proofs.Reading.{cond-holds, task-put, task-other, task-alike, go-passed, runner-passed}
 use Rattle.kept.proofs.Flagging.{Flagged, flags-ready, flags-waiting, SettledBut, but-settled, but-clears, settled-sets}
 use Rattle.kept.proofs.Flagging.{Apart, apart-WAIT, apart-MHBS}
 

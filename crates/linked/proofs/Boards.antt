@@ -25,15 +25,16 @@ use Rattle.linked.specs.Sound.{PlaceGood, Sound}
 use Rattle.linked.specs.Claims.{Whereabouts, free, held, queued}
 use Rattle.linked.proofs.Says.{Says, _&_, says-zero, says-not, says-each}
 use Rattle.linked.proofs.Tests.{says-allZero, says-goodTask, says-goodMessage, says-isQueuedAt, says-goodFlags}
-use Rattle.linked.proofs.Listings.{nth-numbered, says-lists, listing-walk}
+use Rattle.linked.proofs.Listings.{says-lists, listing-walk}
+use Rattle.linked.proofs.Running.{present-numbered}
 
 -- the records are as many as the size says, and a walk's limit serves both kinds
 module _ (z : Size) (b : Board) (tasks : length (b .tasks) ≡ z .tasks) (places : length (b .places) ≡ z .messages)
     (fuel : z .tasks ≤ z .messages) where
   -- ---- the links
   -- a present task is a task of the board
-  pub present-numbered : (k : ℕ) → present b k ≡ true → Numbered (z .tasks) k
-  present-numbered k e = rw (← tasks) (nth-numbered noTask isThere (b .tasks) refl k e)
+  pub present-within : (k : ℕ) → present b k ≡ true → Numbered (z .tasks) k
+  present-within k e = rw (← tasks) (present-numbered b k e)
 
   -- a walk has fuel for all tasks
   fuel-tasks : length (b .tasks) ≤ z .messages
@@ -112,7 +113,7 @@ module _ (z : Size) (b : Board) (tasks : length (b .tasks) ≡ z .tasks) (places
     good-whereabouts m Free d k = free d k (out-queue m Free d (λ j. refl))
     good-whereabouts m (HeldBy k) d (r, l, t) = held (k .0) d t (out-queue m (HeldBy k) d (λ j. refl))
     good-whereabouts m (QueuedAt k) d (r, o, l, t) =
-        let i = present-numbered (k .0) t in
+        let i = present-within (k .0) t in
         queued (k .0) d t (in-queue m (k .0) i .1 d) (once-queue (k .0) i) (one-queue m k d)
     good-whereabouts m (Nowhere p) d k = absurd k
 

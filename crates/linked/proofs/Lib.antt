@@ -1,5 +1,6 @@
 pub mod Says
 pub mod Tests
 pub mod Listings
+pub mod Running
 pub mod Boards
 pub mod Theorems

@@ -15,7 +15,7 @@ use Rattle.board.specs.declared.places.Place.{Place}
 use Rattle.board.specs.declared.places.Place.the-variants.{Free, HeldBy, QueuedAt, Nowhere}
 use Rattle.board.specs.Numbers.{taskNo}
 use Rattle.board.specs.Status.{stored}
-use Rattle.board.specs.Places.{isQueuedAt}
+use Rattle.board.specs.Places.{isFree, isHeldBy, isQueuedAt}
 use Rattle.board.specs.Records.{noTask, noMessage}
 use Rattle.board.specs.Board.{Board, message}
 use Rattle.paper.specs.Rules.{present, allZero, zeroTask, goodHead, goodTask, zeroMessage, goodPointers, goodMessage, goodFlags}
@@ -86,6 +86,23 @@ says-isQueuedAt k p = (there p, λ e. ap (isQueuedAt k) e ∙ eq-eqb k k refl)
     there (HeldBy j) e = absurd (true≢false (sym e))
     there (QueuedAt j) e = ap (λ (x : ℕ). QueuedAt (taskNo x)) (eqb-true (j .0) k e)
     there (Nowhere j) e = absurd (true≢false (sym e))
+
+-- it is that task's hands
+pub says-isHeldBy : (k : ℕ) (p : Place) → Says (isHeldBy k p) (p ≡ HeldBy (taskNo k))
+says-isHeldBy k p = (there p, λ e. ap (isHeldBy k) e ∙ eq-eqb k k refl)
+  where
+    there : (p : Place) → isHeldBy k p ≡ true → p ≡ HeldBy (taskNo k)
+    there Free e = absurd (true≢false (sym e))
+    there (HeldBy j) e = ap (λ (x : ℕ). HeldBy (taskNo x)) (eqb-true (j .0) k e)
+    there (QueuedAt j) e = absurd (true≢false (sym e))
+    there (Nowhere j) e = absurd (true≢false (sym e))
+
+-- it is free
+pub says-isFree : (p : Place) → Says (isFree p) (p ≡ Free)
+says-isFree Free = ((λ e. refl), λ e. refl)
+says-isFree (HeldBy k) = ((λ e. absurd (true≢false (sym e))), ap isFree)
+says-isFree (QueuedAt k) = ((λ e. absurd (true≢false (sym e))), ap isFree)
+says-isFree (Nowhere p) = ((λ e. absurd (true≢false (sym e))), ap isFree)
 
 -- ---- R6: flags
 -- which go together, and with an empty queue

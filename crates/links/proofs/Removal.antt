@@ -23,6 +23,11 @@ without-split m [] b o = rw (eq-eqb m m refl, without)
 without-split m (x ∷ a) b o =
     rw (ne-eqb x m (λ e. o .0 (sym e)), without) (ap (λ (l : List ℕ). x ∷ l) (without-split m a b (o .1)))
 
+-- without the first: the rest
+pub rest-without : (q : List ℕ) → without (firstOf q) q ≡ restOf q
+rest-without [] = refl
+rest-without (x ∷ q) = rw (eq-eqb x x refl, without)
+
 -- where m stands nowhere nothing goes
 pub without-out : (m : ℕ) (q : List ℕ) → Out m q → without m q ≡ q
 without-out m [] o = refl

@@ -37,7 +37,6 @@ use Rattle.paper.specs.declared.answer.Refusal.the-variants.{NoneFree, BadSende
 use Rattle.paper.specs.Rules.{running}
 use Rattle.paper.specs.Effects.{lowestFree}
 use Rattle.paper.specs.Refusals.{no11, no14, lowest}
-use Rattle.kept.proofs.Holding.{lowest-free}
 use Rattle.inner.specs.declared.step.Held.{Held}
 use Rattle.inner.specs.declared.step.Held.the-variants as held
 use Rattle.inner.specs.declared.step.Step.the-variants.{Done, Stopped}
@@ -45,6 +44,7 @@ use Rattle.inner.specs.Inner.{heldOf}
 use Rattle.inner.specs.Stores.{releaseIn, prepareIn, Makes, verdict, stepping}
 use Rattle.inner.proofs.Rows.{lowest-stop, lowest-on}
 use Rattle.inner.proofs.Steps.{stops, does, one-goes, held-goes}
+use Rattle.linked.proofs.Running.{lowest-free}
 
 -- ---- the lowest free message
 -- the code holds the place p as q and met another variant than Free

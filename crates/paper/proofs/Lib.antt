@@ -1,2 +1,3 @@
 pub mod Slips
+pub mod Rows
 pub mod Theorems

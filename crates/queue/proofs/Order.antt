@@ -28,7 +28,7 @@ use Rattle.board.proofs.Written.{board-put-first, board-put-task}
 use Rattle.paper.specs.Rules.{nextTask, taskNumber, order}
 use Rattle.paper.specs.Changes.{linkTask, withOrder}
 use Rattle.linked.specs.Linked.{Numbered, Linked}
-use Rattle.linked.proofs.Boards.{present-numbered, linked-walks}
+use Rattle.linked.proofs.Boards.{present-within, linked-walks}
 use Rattle.queue.specs.Moves.{linkTaskIn, behindTaskIn, spotForTask, orderInto, spotOfTask, orderOut}
 use Rattle.queue.proofs.Effects.{length-put-task, length-link-task, board-link-task}
 use Rattle.queue.proofs.Behind.{behind, spotIn, behind-insert, behind-without}
@@ -98,7 +98,7 @@ module _ (z : Size) (l : List ℕ) (e : length l ≡ total z) (fuel : z .tasks �
   order-small : All (λ k. k ≤ 64) tasks
   order-small =
       all-of (λ k. k ≤ 64) tasks
-      (λ k i. omega (arith, present-numbered z b (length-tasks z l) (length-places z l) fuel k (h .tasks .exact k .0 i)))
+      (λ k i. omega (arith, present-within z b (length-tasks z l) (length-places z l) fuel k (h .tasks .exact k .0 i)))
 
   -- a record written of a task that isn't in the queue leaves the links
   order-chain-with : (k : ℕ) (t : Task) → Out k (order z b) → Chain (nextTask (withTask b k t)) (b .first) (order z b)

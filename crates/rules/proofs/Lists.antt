@@ -22,7 +22,7 @@ use Rattle.board.specs.declared.places.Place.{Place}
 use Rattle.board.specs.declared.places.Place.the-variants.{Free, HeldBy, QueuedAt, Nowhere}
 use Rattle.board.specs.Numbers.{outside}
 use Rattle.board.specs.Records.{noTask}
-use Rattle.board.specs.Places.{placeOf, placeIn, isQueuedAt}
+use Rattle.board.specs.Places.{placeOf, placeIn, isQueuedAt, isQueued}
 use Rattle.board.specs.Board.{Board, boardOf, placeArea, pieces, task}
 use Rattle.board.proofs.Codec.{place-free, place-held, place-receiver, place-nowhere}
 use Rattle.board.proofs.Pieces.{outside-within}
@@ -30,7 +30,7 @@ use Rattle.paper.specs.Rules.{isThere, present, nextTask, nextMessage, taskNumb
 use Rattle.linked.proofs.Listings.{which-nth}
 use Rattle.rules.specs.declared.walks.Walked.{Walked}
 use Rattle.rules.specs.declared.walks.Walked.the-variants.{Seen, Broken}
-use Rattle.rules.specs.Walks.{visited, counted, isQueued, queued, queuedAt, added, walked}
+use Rattle.rules.specs.Walks.{visited, counted, queued, queuedAt, added, walked}
 use Rattle.rules.proofs.Visits.{every, orderly, visited-whole}
 use Rattle.rules.proofs.Counting.{sumTo, sum-zero, sum-once, sum-tight, sums-equal, counted-which, counts-add}
 

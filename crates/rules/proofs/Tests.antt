@@ -27,9 +27,9 @@ use Rattle.board.proofs.places.Place.{the-type}
 use Rattle.board.proofs.Pieces.{nth-outside}
 use Rattle.board.proofs.Codec.{length-tasks}
 use Rattle.board.proofs.Meant.{taskMeant-task, taskMeant-none}
+use Rattle.board.specs.Places.{isQueued}
 use Rattle.paper.specs.Rules.{running, allZero, zeroTask, taskPrio, goodHead, goodTask, goodFlags, rule7}
 use Rattle.linked.proofs.Tests.{says-zeroTask}
-use Rattle.rules.specs.Walks.{isQueued}
 
 -- ---- bytes 1 to 3
 -- they are read one by one, as 0 past the end

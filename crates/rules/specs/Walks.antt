@@ -12,7 +12,7 @@ use Rattle.board.specs.declared.numbers.Size.{Size}
 use Rattle.board.specs.declared.records.Task.{Task}
 use Rattle.board.specs.declared.places.Place.{Place}
 use Rattle.board.specs.declared.places.Place.the-variants.{Free, HeldBy, QueuedAt, Nowhere}
-use Rattle.board.specs.Places.{isQueuedAt}
+use Rattle.board.specs.Places.{isQueuedAt, isQueued}
 use Rattle.board.specs.Board.{Board, task, place}
 use Rattle.paper.specs.Rules.{nextMessage, messageNumber}
 use Rattle.rules.specs.declared.walks.Turn.{Turn}
@@ -32,12 +32,6 @@ visited next number good (suc n) (suc x) low seen =
 unfoldable pub counted : (ℕ → Bool) → ℕ → ℕ
 counted f zero = 0
 counted f (suc n) = cond (f (suc n)) (suc (counted f n)) (counted f n)
-
-abbrev pub isQueued : Place → Bool
-isQueued Free = false
-isQueued (HeldBy k) = false
-isQueued (QueuedAt k) = true
-isQueued (Nowhere p) = false
 
 -- message m is queued, queued at k
 abbrev pub queued : Board → ℕ → Bool

@@ -22,8 +22,8 @@ use Rattle.paper.specs.declared.answer.Refusal.the-variants.{WrongLength, RuleB
 use Rattle.paper.specs.Rules.{running, passes}
 use Rattle.paper.specs.Refusals.{test, lowest}
 use Rattle.paper.specs.Outcomes.{Outcome, Ends, accepted, judge, blank, fresh, check}
-use Rattle.kept.proofs.Reading.{present-numbered, runner-says}
 use Rattle.station.specs.Meant.{numberMeant}
+use Rattle.linked.proofs.Running.{present-numbered, runner-says}
 
 -- an outcome ends as it says
 pub ends : (a : Answer) (l : List ℕ) (o : Outcome) → o ≡ record { answer = a; after = l } → Ends a l o

@@ -24,9 +24,10 @@ use Rattle.paper.specs.Rules.{present, nextMessage, queue, order, emptyQueue}
 use Rattle.paper.specs.Changes.{sets, clears, hold, withQueue, takeFirst}
 use Rattle.paper.specs.Effects.{queueWith, woken, placeAt, emptied, post, waitInterrupt, waits}
 use Rattle.linked.specs.Linked.{Linked, Numbered}
+use Rattle.linked.proofs.Running.{placed-numbered}
 use Rattle.kept.specs.Claims.{Sizes}
 use Rattle.kept.specs.Settled.{Settled}
-use Rattle.kept.proofs.Reading.{placed-numbered, queued-placed, queue-walked}
+use Rattle.kept.proofs.Reading.{queued-placed, queue-walked}
 use Rattle.kept.proofs.Waiting.{task-numbered}
 use Rattle.kept.proofs.Taking.{take-none}
 use Rattle.queue.specs.Moves.{setsIn, clearsIn, queueInto, mptrIn, holdIn}

@@ -19,8 +19,9 @@ use Rattle.board.specs.Status.{MHBS, stored}
 use Rattle.board.specs.Records.{noTask, noMessage, withStat, withPrio, withRptr, withSptr}
 use Rattle.board.specs.Board.{Board, total, boardOf, task, message, place, withTask, withMessage, withPlace}
 use Rattle.board.specs.Writes.{putMessage}
-use Rattle.board.proofs.Pieces.{outside-within}
+use Rattle.board.proofs.Pieces.{outside-within, neither}
 use Rattle.board.proofs.Codec.{Small}
+use Rattle.board.specs.Places.{isQueued}
 use Rattle.paper.specs.declared.call.Call.{Call}
 use Rattle.paper.specs.declared.call.Call.the-variants.{Install, PostInterrupt, Find, CancelTask, Claim, Prepare, Release, Send, SendAndWait, Resend, ResendAndWait, Forward, ForwardAndWait, Return, ReturnAndWait, Receive, ReceiveAndWait, CancelMessage, WaitForInterrupt}
 use Rattle.paper.specs.declared.answer.Refusal.the-variants.{NothingToDeliver}
@@ -31,10 +32,11 @@ use Rattle.paper.specs.Effects.{ownPrio, placeAt, addressed, send, emptied, can
 use Rattle.paper.specs.Refusals.{Test, no3, no4, no5, no6, no7, no8, no7Install, no9, no10, no11, no12, no13, ownRow, Verdict, Go, Stop, lowest}
 use Rattle.paper.specs.Outcomes.{Undispatched, body}
 use Rattle.linked.specs.Linked.{Linked, Numbered}
+use Rattle.linked.proofs.Running.{runner-says}
 use Rattle.kept.specs.Claims.{Sizes}
 use Rattle.kept.specs.Settled.{Settled}
-use Rattle.kept.proofs.Reading.{runner-says, runner-passed, go-passed, neither, task-passed}
-use Rattle.kept.proofs.Holding.{isQueued, unqueued-out}
+use Rattle.kept.proofs.Reading.{runner-passed, go-passed, task-passed}
+use Rattle.kept.proofs.Holding.{unqueued-out}
 use Rattle.kept.proofs.Waiting.{task-numbered}
 use Rattle.kept.proofs.Placing.{addressed-settled, sender-passed}
 use Rattle.kept.proofs.Taking.{queued-passed}

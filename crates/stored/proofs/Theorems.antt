@@ -23,7 +23,6 @@ use Rattle.paper.specs.Outcomes.{Outcome, Undispatched, undispatched, accepted,
 use Rattle.kept.specs.Claims.{Sizes, Bytes}
 use Rattle.kept.specs.Settled.{Settled, Fitting}
 use Rattle.kept.specs.After.{orderAfter, queuesAfter}
-use Rattle.kept.proofs.Reading.{runner-says}
 use Rattle.kept.proofs.Fitting.{fits-board}
 use Rattle.kept.proofs.Dispatching.{dispatch-delivers}
 use Rattle.kept.proofs.Theorems.{body-settles, passing-sound, sound-settled, sound-runner}
@@ -34,6 +33,7 @@ use Rattle.inner.proofs.Rows.{lowest-on}
 use Rattle.stored.proofs.Comes.{Comes, and-then, comes-clears}
 use Rattle.stored.proofs.Bodies.{first-walked, first-numbered, comes-taken}
 use Rattle.stored.proofs.Calls.{body-comes, body-value}
+use Rattle.linked.proofs.Running.{runner-says}
 
 -- bytes that come to a board are its bytes
 comes-bytes : (z : Size) (l : List ℕ) (b : Board) → Comes z l b → Small l → l ≡ bytesOf b

@@ -5,7 +5,8 @@ use native.Mathlib.Omega.{arith}
 use denote.Ref.{now}
 use borrow.Author.Needs.{needs}
 use Rattle.board.specs.Board.{boardOf}
-use Rattle.rules.specs.Walks.{isQueued, queued, counted}
+use Rattle.board.specs.Places.{isQueued}
+use Rattle.rules.specs.Walks.{queued, counted}
 use Rattle.rules.proofs.Turns.{count-starts, count-yes, count-no, count-bound}
 use Rattle.rules.proofs.Tests.{not-queued}
 use Rattle.rules.proofs.walks.count_queued.Statement.{statement}

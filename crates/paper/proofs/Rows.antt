@@ -1,0 +1,27 @@
+-- A row of refusals, test by test. Assumes nothing.
+use mathlib.Core.Path.{_≡_, ap, _∙_}
+use mathlib.Core.Bool.{true, false, not}
+use mathlib.Core.List.{List, _∷_}
+use Prim.Native.Nat.{ℕ}
+use lib.ListN.{length}
+use borrow.Author.Tests.{eq-eqb}
+use Rattle.board.specs.declared.numbers.Size.{Size}
+use Rattle.board.specs.Board.{Board, total}
+use Rattle.paper.specs.declared.call.Call.{Call}
+use Rattle.paper.specs.Rules.{passes}
+use Rattle.paper.specs.Refusals.{Test, no1, no2, ownRow, row, Stop, lowest}
+
+-- a test that applies stops
+pub lowest-stop : (t : Test) (tests : List Test) → t .applies ≡ true → lowest (t ∷ tests) ≡ Stop (t .refusal)
+lowest-stop t tests e = rw (e, lowest)
+
+-- one that does not is passed
+pub lowest-on : (t : Test) (tests : List Test) → t .applies ≡ false → lowest (t ∷ tests) ≡ lowest tests
+lowest-on t tests e = rw (e, lowest)
+
+-- on a board of the right length that passes, refusals 1 and 2 are passed
+pub row-own : (z : Size) (l : List ℕ) (b : Board) (c : ℕ) (call : Call) → length l ≡ total z → passes z b ≡ true
+    → lowest (row z l b c call) ≡ lowest (ownRow z b c call)
+row-own z l b c call long sound =
+    lowest-on (no1 z l) (no2 z b ∷ ownRow z b c call) (ap not (eq-eqb (length l) (total z) long))
+    ∙ lowest-on (no2 z b) (ownRow z b c call) (ap not sound)
