@@ -7,6 +7,7 @@ use mathlib.Core.List.{List, [], _∷_}
 use Prim.Native.Nat.{ℕ, zero, suc, _+_, _*_}
 use lib.Dec.{lit<}
 use lib.ListN.{getD, take, drop, replicate, length-replicate}
+use lib.Seq.{getD-drop}
 use Rattle.links.specs.Chain.{All}
 use Rattle.board.specs.declared.numbers.Size.{Size}
 use Rattle.board.specs.declared.records.Task.{Task}
@@ -34,45 +35,44 @@ use Rattle.history.proofs.Steps.{Agreeing}
 
 -- ---- lists of zeros
 abbrev Zeros : List ℕ → Type 0
-Zeros l = All (λ x. x ≡ 0) l
+Zeros l = (i : ℕ) → getD l i 0 ≡ 0
 
 zeros-replicate : (n : ℕ) → Zeros (replicate n 0)
-zeros-replicate zero = tt
-zeros-replicate (suc n) = (refl, zeros-replicate n)
+zeros-replicate zero i = refl
+zeros-replicate (suc n) zero = refl
+zeros-replicate (suc n) (suc i) = zeros-replicate n i
 
-zeros-read : (l : List ℕ) → Zeros l → (i : ℕ) → getD l i 0 ≡ 0
-zeros-read [] h i = refl
-zeros-read (x ∷ l) h zero = h .0
-zeros-read (x ∷ l) h (suc i) = zeros-read l (h .1) i
-
-zeros-take : (w : ℕ) (l : List ℕ) → Zeros l → Zeros (take w l)
-zeros-take zero l h = tt
-zeros-take (suc w) [] h = tt
-zeros-take (suc w) (x ∷ l) h = (h .0, zeros-take w l (h .1))
+zeros-all : (l : List ℕ) → Zeros l → All (λ x. x ≡ 0) l
+zeros-all [] h = tt
+zeros-all (x ∷ l) h = (h 0, zeros-all l (λ i. h (suc i)))
 
 zeros-drop : (w : ℕ) (l : List ℕ) → Zeros l → Zeros (drop w l)
-zeros-drop zero l h = h
-zeros-drop (suc w) [] h = tt
-zeros-drop (suc w) (x ∷ l) h = zeros-drop w l (h .1)
+zeros-drop w l h i = getD-drop w l i 0 ∙ h (w + i)
+
+zeros-take : (w : ℕ) (l : List ℕ) → Zeros l → Zeros (take w l)
+zeros-take zero l h i = refl
+zeros-take (suc w) [] h i = refl
+zeros-take (suc w) (x ∷ l) h zero = h 0
+zeros-take (suc w) (x ∷ l) h (suc i) = zeros-take w l (λ j. h (suc j)) i
 
 zeros-cut : (n w : ℕ) (l : List ℕ) → Zeros l → (i : ℕ) → Zeros (getD (cut n w l) i [])
-zeros-cut zero w l h i = tt
+zeros-cut zero w l h i = λ j. refl
 zeros-cut (suc n) w l h zero = zeros-take w l h
 zeros-cut (suc n) w l h (suc i) = zeros-cut n w (drop w l) (zeros-drop w l h) i
 
 zeros-piece : (a : Area) (l : List ℕ) → Zeros l → (k : ℕ) → Zeros (nth [] (pieces a l) k)
-zeros-piece a l h zero = tt
+zeros-piece a l h zero = λ j. refl
 zeros-piece a l h (suc i) = zeros-cut (a .count) (a .stride) (drop (a .base) l) (zeros-drop (a .base) l h) i
 
 -- ---- records of zeros
 module _ (p : List ℕ) (h : Zeros p) where
   zero-word : (i : ℕ) → wordAt p i ≡ 0
-  zero-word i = ap₂ (λ (x y : ℕ). x + 256 * y) (zeros-read p h i) (zeros-read p h (i + 1))
+  zero-word i = ap₂ (λ (x y : ℕ). x + 256 * y) (h i) (h (i + 1))
 
   zero-task : taskOf p ≡ noTask
   zero-task = λ i. record {
-    stat = stored (zeros-read p h 0 i);
-    prio = zeros-read p h 1 i;
+    stat = stored (h 0 i);
+    prio = h 1 i;
     link = zero-word 2 i;
     mptr = zero-word 4 i;
     sptr = zero-word 6 i;
@@ -81,15 +81,15 @@ module _ (p : List ℕ) (h : Zeros p) where
 
   zero-message : messageOf p ≡ noMessage
   zero-message = λ i. record {
-    stat = zeros-read p h 0 i;
-    prio = zeros-read p h 1 i;
+    stat = h 0 i;
+    prio = h 1 i;
     link = zero-word 2 i;
     rptr = zero-word 4 i;
     sptr = zero-word 6 i;
   }
 
   zero-place : (z : Size) → placeIn z p ≡ places.Free
-  zero-place z = ap (placeOf z) (zeros-read p h 0)
+  zero-place z = ap (placeOf z) (h 0)
 
 -- ---- the fresh board
 module _ (z : Size) where
@@ -118,18 +118,18 @@ module _ (z : Size) where
   fresh-bytes : Bytes z (blank z)
   fresh-bytes = record {
     long = length-replicate (total z) 0;
-    bytes = λ i. subst Byte (sym (zeros-read (blank z) zeros i)) (lit< tt);
+    bytes = λ i. subst Byte (sym (zeros i)) (lit< tt);
   }
 
   fresh-settled : Settled z b [] (λ k. [])
   fresh-settled = record {
     fits = fits-board z (blank z) fresh-bytes;
-    byte1 = zeros-read (blank z) zeros 1;
-    zeros = zeros-take 2 (drop 2 (blank z)) (zeros-drop 2 (blank z) zeros);
+    byte1 = zeros 1;
+    zeros = zeros-all (b .zeros) (zeros-take 2 (drop 2 (blank z)) (zeros-drop 2 (blank z) zeros));
     records = λ k d. inl (fresh-task k);
     linked = record {
       tasks = record {
-        chain = zeros-read (blank z) zeros 0;
+        chain = zeros 0;
         exact = λ y. ((λ i. absurd i), λ e. true≢false (sym e ∙ ap isThere (fresh-task y)));
         sorted = tt;
       };

@@ -3,12 +3,13 @@
 -- Assumes nothing.
 use mathlib.Core.Path.{_≡_, sym, ap, _∙_, subst}
 use mathlib.Core.Logic.{_≢_}
-use mathlib.Core.Bool.{false, true≢false}
+use mathlib.Core.Bool.{Bool, false, cond, true≢false}
 use mathlib.Core.List.{List}
 use Prim.Native.Nat.{ℕ}
 use lib.ListN.{length}
 use Rattle.links.specs.Chain.{In}
 use Rattle.board.specs.declared.numbers.Size.{Size}
+use Rattle.board.specs.declared.status.Status.{Status}
 use Rattle.board.specs.declared.places.Place.the-variants.{Free, HeldBy}
 use Rattle.board.specs.Numbers.{taskNo}
 use Rattle.board.specs.Status.{IWAT, INTQ, has}
@@ -27,7 +28,7 @@ use Rattle.kept.proofs.Reading.{cond-holds}
 use Rattle.kept.proofs.Holding.{held-numbered}
 use Rattle.history.specs.Ranking.{Entry}
 use Rattle.history.specs.Machine as plain
-use Rattle.history.specs.Machine.{Plain, Held, noBlock, withWhose}
+use Rattle.history.specs.Machine.{Plain, Held, noBlock, withWhose, flagged}
 use Rattle.history.proofs.Named.{Named, named-flagged, named-block, named-install, named-cancel}
 use Rattle.history.proofs.Machines.{plainOf, plain-message, plain-place, plain-post, plain-wait, plain-install, plain-cancel}
 use Rattle.history.proofs.Asked.{asked-free, entry-present, entry-queued}
@@ -59,21 +60,20 @@ module _ (z : Size) (b : Board) (q : List ℕ) (f : ℕ → List ℕ) (a : Sizes
   task-there k d = rw (h .fits .tasks) d
 
   -- ---- flags
+  -- one status of task k written or another
+  flags-same : (k : ℕ) (t : Bool) (x y : Status) (o : Board) → cond t (flagged p k x) (flagged p k y) ≡ plainOf o l s n
+      → Same z o q f (cond t (flagged p k x) (flagged p k y))
+  flags-same k t x y o e =
+      same-at l s n e
+      (cond-holds (λ (r : Plain). Named z r q f) t _ _ (λ i. named-flagged z p q f w k x) (λ i. named-flagged z p q f w k y))
+
   -- post interrupt
   pub post-same : (k : ℕ) → Numbered (z .tasks) k → Same z (post b k) q f (plain.post (plainOf b l s n) k)
-  post-same k d =
-      same-at l s n
-      (plain-post l s n b k (task-there k d))
-      (cond-holds (λ (x : Plain). Named z x q f) (has (task b k .stat) IWAT) _ _ (λ e. named-flagged z p q f w k _)
-      (λ e. named-flagged z p q f w k _))
+  post-same k d = flags-same k (has (task b k .stat) IWAT) _ _ (post b k) (plain-post l s n b k (task-there k d))
 
   -- wait for interrupt
   pub wait-same : (c : ℕ) → Numbered (z .tasks) c → Same z (waitInterrupt b c) q f (plain.waitInterrupt (plainOf b l s n) c)
-  wait-same c d =
-      same-at l s n
-      (plain-wait l s n b c (task-there c d))
-      (cond-holds (λ (x : Plain). Named z x q f) (has (task b c .stat) INTQ) _ _ (λ e. named-flagged z p q f w c _)
-      (λ e. named-flagged z p q f w c _))
+  wait-same c d = flags-same c (has (task b c .stat) INTQ) _ _ (waitInterrupt b c) (plain-wait l s n b c (task-there c d))
 
   -- ---- messages that stand in no queue
   -- claim
