@@ -1,17 +1,16 @@
 -- A whole call on bytes and on the machine: the same refusal or the same answer, and they agree again afterwards.
 -- Assumes nothing.
 use mathlib.Core.Path.{_≡_, refl, sym, ap, _∙_, subst}
-use mathlib.Core.Bool.{true, false, not}
-use mathlib.Core.List.{List, _∷_}
+use mathlib.Core.Bool.{true}
+use mathlib.Core.List.{List}
 use Prim.Native.Nat.{ℕ}
 use lib.ListN.{length}
-use borrow.Author.Tests.{eq-eqb}
 use Rattle.board.specs.declared.numbers.Size.{Size}
 use Rattle.board.specs.Board.{Board, total, boardOf}
 use Rattle.paper.specs.declared.call.Call.{Call}
 use Rattle.paper.specs.Rules.{running, passes}
 use Rattle.paper.proofs.Rows.{row-own}
-use Rattle.paper.specs.Refusals.{Test, ownRow, row, Verdict, Go, Stop, lowest}
+use Rattle.paper.specs.Refusals.{ownRow, Verdict, Go, Stop, lowest}
 use Rattle.paper.specs.Outcomes as paper
 use Rattle.kept.specs.Settled.{Settled, Fitting}
 use Rattle.kept.specs.After.{orderAfter, queuesAfter}
