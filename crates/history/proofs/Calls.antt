@@ -1,7 +1,7 @@
 -- Each call on a board and on its machine: the same refusal, and where none is given the same value and again a board and its machine.
 -- A call more costs a row of calls-alike.
 -- Assumes nothing.
-use mathlib.Core.Path.{_≡_, refl, sym}
+use mathlib.Core.Path.{_≡_, refl, sym, subst}
 use mathlib.Core.Bool.{Bool, true, false}
 use mathlib.Core.List.{List, [], _∷_}
 use Prim.Native.Nat.{ℕ}
@@ -17,6 +17,7 @@ use Rattle.paper.specs.declared.call.Call.the-variants.{Install, PostInterrupt,
 use Rattle.paper.specs.declared.call.Call.the-variants.{Send, SendAndWait, Resend, ResendAndWait, Forward, ForwardAndWait, Return, ReturnAndWait}
 use Rattle.paper.specs.declared.call.Call.the-variants.{Receive, ReceiveAndWait, CancelMessage, WaitForInterrupt}
 use Rattle.paper.specs.Rules.{present, running}
+use Rattle.paper.specs.Changes.{takeFirst}
 use Rattle.paper.specs.Effects.{lowestFree, waits}
 use Rattle.paper.specs.Refusals.{Test, no3, no4, no5, no6, no7, no7Install, no8, no9, no10, no11, no12, no13, no14, ownRow, Go, lowest}
 use Rattle.paper.specs.Outcomes.{Undispatched, undispatched, body}
@@ -24,11 +25,13 @@ use Rattle.linked.specs.Linked.{Numbered}
 use Rattle.linked.proofs.Tests.{says-isQueuedAt}
 use Rattle.linked.proofs.Running.{runner-says}
 use Rattle.kept.specs.Settled.{Settled}
-use Rattle.kept.specs.After.{placed, sent, orderAfter, queuesAfter}
+use Rattle.kept.specs.Touched as kept
+use Rattle.kept.specs.Touched.{Touched, touched, changed, orderAfter, queuesAfter}
 use Rattle.kept.specs.Claims.{Sizes}
 use Rattle.kept.proofs.Reading.{go-passed, runner-passed, held-row, task-passed}
 use Rattle.kept.proofs.Waiting.{task-numbered}
 use Rattle.kept.proofs.Placing.{send-settled, forward-settled}
+use Rattle.kept.proofs.Taking.{first-left}
 use Rattle.history.specs.Ranking.{Entry}
 use Rattle.history.specs.Machine as plain
 use Rattle.history.specs.Machine.{Plain, Played}
@@ -108,14 +111,14 @@ module _ (z : Size) (b : Board) (q : List ℕ) (f : ℕ → List ℕ) (a : Sizes
       (outside-within (z .tasks) k (d .0), d .1)
 
   -- ---- messages placed
-  sends : (m r : ℕ) → Alike z (ownRow z b c (Send m r)) (body z b c (Send m r)) q (sent b c f m r) (plain.sends z p c m r)
+  sends : (m r : ℕ) → Alike z (ownRow z b c (Send m r)) (body z b c (Send m r)) q (queuesAfter b f (kept.sends b c m r .move)) (plain.sends z p c m r)
   sends m r = record {
     verdict = rw (held-alike c (place b m));
     value = λ g. refl;
     same = λ g. let t = sender-row m r [] g in send-same z b q f a h l s n w c m r (t .0) (t .1);
   }
 
-  passes-on : (m r : ℕ) → Alike z (ownRow z b c (Forward m r)) (body z b c (Forward m r)) q (placed b f m (message b m .prio) r)
+  passes-on : (m r : ℕ) → Alike z (ownRow z b c (Forward m r)) (body z b c (Forward m r)) q (queuesAfter b f (kept.passesOn b m r .move))
       (plain.passesOn z p c m r)
   passes-on m r = record {
     verdict = rw (held-alike c (place b m));
@@ -123,14 +126,14 @@ module _ (z : Size) (b : Board) (q : List ℕ) (f : ℕ → List ℕ) (a : Sizes
     same = λ g. let t = sender-row m r (no7 b m ∷ []) g in forward-same z b q f a h l s n w c m r (t .0) (t .1);
   }
 
-  sends-waits : (m r : ℕ) → Alike z (ownRow z b c (SendAndWait m r)) (body z b c (SendAndWait m r)) q (sent b c f m r)
+  sends-waits : (m r : ℕ) → Alike z (ownRow z b c (SendAndWait m r)) (body z b c (SendAndWait m r)) q (queuesAfter b f (kept.sends b c m r .move))
       (plain.andWait c (plain.sends z p c m r))
   sends-waits m r =
       and-wait z _ q _ c (ownRow z b c (Send m r)) (plain.sends z p c m r) a
       (λ g. (send-settled z b q f a h m r g .0, sender-row m r [] g .2)) (sends m r)
 
   passes-on-waits : (m r : ℕ) → Alike z (ownRow z b c (ForwardAndWait m r)) (body z b c (ForwardAndWait m r)) q
-      (placed b f m (message b m .prio) r) (plain.andWait c (plain.passesOn z p c m r))
+      (queuesAfter b f (kept.passesOn b m r .move)) (plain.andWait c (plain.passesOn z p c m r))
   passes-on-waits m r =
       and-wait z _ q _ c (ownRow z b c (Forward m r)) (plain.passesOn z p c m r) a
       (λ g. (forward-settled z b q f a h m r g .0, sender-row m r (no7 b m ∷ []) g .2)) (passes-on m r)
@@ -155,7 +158,8 @@ module _ (z : Size) (b : Board) (q : List ℕ) (f : ℕ → List ℕ) (a : Sizes
 
   -- ---- each call
   pub calls-alike : (call : Call) → let c = running z b in
-      Alike z (ownRow z b c call) (body z b c call) (orderAfter b q call) (queuesAfter b c f call) (plain.play z (plainOf b l s n) c call)
+      Alike z (ownRow z b c call) (body z b c call) (orderAfter b q (touched b c call .move)) (queuesAfter b f (touched b c call .move))
+      (plain.play z (plainOf b l s n) c call)
   calls-alike (Install k t prio sptr name) = record {
     verdict = refl;
     value = λ g. refl;
@@ -204,7 +208,8 @@ module _ (z : Size) (b : Board) (q : List ℕ) (f : ℕ → List ℕ) (a : Sizes
   calls-alike Receive = record {
     verdict = refl;
     value = λ g. sym (first-walked z b q f a h l s n w c (runner-alone g));
-    same = λ g. take-same z b q f a h l s n w c (runner-alone g) _ refl;
+    same = λ g. subst (λ (x : List ℕ). Same z (takeFirst z b c) q (changed f c x) (plain.take p c (plain.first p c)))
+        (sym (first-left z b q f h c (runner-alone g))) (take-same z b q f a h l s n w c (runner-alone g) _ refl);
   }
   calls-alike ReceiveAndWait = record {
     verdict = refl;

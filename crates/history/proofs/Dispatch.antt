@@ -18,7 +18,7 @@ use Rattle.paper.specs.Outcomes as paper
 use Rattle.linked.specs.Linked.{Numbered}
 use Rattle.linked.proofs.Running.{runner-says}
 use Rattle.kept.specs.Settled.{Settled}
-use Rattle.kept.specs.After.{changed}
+use Rattle.kept.specs.Touched.{changed}
 use Rattle.kept.specs.Claims.{Sizes}
 use Rattle.kept.proofs.Waiting.{task-numbered}
 use Rattle.kept.proofs.Taking.{due-queued, deliver-settled}

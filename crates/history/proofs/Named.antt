@@ -14,7 +14,7 @@ use Rattle.board.specs.declared.status.Status.{Status}
 use Rattle.board.specs.Status.{WAIT, MHBS, has, number, fifo}
 use Rattle.board.proofs.Bits.{number-withFifo}
 use Rattle.linked.specs.Linked.{Numbered}
-use Rattle.kept.specs.After.{changed}
+use Rattle.kept.specs.Touched.{changed}
 use Rattle.kept.proofs.Reading.{cond-holds}
 use Rattle.history.specs.Ranking.{Entry}
 use Rattle.history.specs.Machine.{Sheet, Block, Plain, noSheet, machine, upd, withBlock, flagged, sets, clears, first, place, take, cancelMessage, install, cancelTask}

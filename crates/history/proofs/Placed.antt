@@ -8,26 +8,21 @@ use Prim.Native.Nat.{ℕ, suc}
 use lib.Dec.{eqb}
 use lib.ListN.{length}
 use Rattle.links.specs.Chain.{In}
-use Rattle.links.specs.Queue.{goesBefore}
-use Rattle.links.proofs.Insertion.{insert-stays}
 use Rattle.board.specs.declared.numbers.Size.{Size}
 use Rattle.board.specs.declared.records.Message.{Message}
 use Rattle.board.specs.declared.places.Place.the-variants.{HeldBy}
 use Rattle.board.specs.Numbers.{taskNo}
-use Rattle.board.specs.Status.{WAIT, MHBS, number, fifo}
-use Rattle.board.specs.Records.{withPrio, withRptr, withSptr}
+use Rattle.board.specs.Status.{WAIT, MHBS}
 use Rattle.board.specs.Board.{Board, task, message, place}
 use Rattle.board.proofs.Numbered.{length-put}
-use Rattle.board.specs.Places.{isQueued}
-use Rattle.paper.specs.Rules.{messageNumber}
 use Rattle.paper.specs.Changes.{sets}
 use Rattle.paper.specs.Effects.{placeAt, ownPrio, addressed, send, waits}
 use Rattle.linked.specs.Linked.{Numbered}
 use Rattle.kept.specs.Settled.{Settled}
-use Rattle.kept.specs.After.{changed, placed, sent}
+use Rattle.kept.specs.Touched.{IntoQueue, queuesAfter}
 use Rattle.kept.specs.Claims.{Sizes}
-use Rattle.kept.proofs.Reading.{message-put, message-other}
-use Rattle.kept.proofs.Holding.{unqueued-out, held-numbered}
+use Rattle.kept.proofs.Holding.{held-numbered}
+use Rattle.kept.proofs.Placing.{newRecord, addressed-queue}
 use Rattle.history.specs.Ranking.{Entry}
 use Rattle.history.specs.Machine as plain
 use Rattle.history.specs.Machine.{Plain}
@@ -41,7 +36,7 @@ use Rattle.history.proofs.Same.{Same, same-at, held-apart}
 place-same : (z : Size) (b : Board) (q : List ℕ) (f : ℕ → List ℕ) (l s : List Entry) (n : ℕ)
     → Named z (plainOf b l s n) q f → (m r : ℕ) → ((x : Entry) → In x s → x .id ≢ m) → Numbered (z .tasks) r
     → Numbered (length (b .tasks)) r → Numbered (length (b .messages)) m → Numbered (length (b .places)) m
-    → Same z (placeAt z b m r) q (placed b f m (message b m .prio) r) (plain.place (plainOf b l s n) m r)
+    → Same z (placeAt z b m r) q (queuesAfter b f (IntoQueue m (message b m .prio) r)) (plain.place (plainOf b l s n) m r)
 place-same z b q f l s n w m r apart d hr hm hp =
     same-at l (laid (plainOf b l s n) m r .placements) (suc n)
     (plain-placed z l s n b m r hr hm hp) (named-place z (plainOf b l s n) q f w m r apart d)
@@ -56,45 +51,29 @@ module _ (z : Size) (b : Board) (q : List ℕ) (f : ℕ → List ℕ) (a : Sizes
     numbered = held-numbered z b q f h m c held
 
     -- resend, forward, return: a held one, as it is
-    pub forward-same : Same z (placeAt z b m r) q (placed b f m (message b m .prio) r) (plain.place (plainOf b l s n) m r)
+    pub forward-same : Same z (placeAt z b m r) q (queuesAfter b f (IntoQueue m (message b m .prio) r)) (plain.place (plainOf b l s n) m r)
     forward-same =
         place-same z b q f l s n w m r (held-apart z b q f a h l s n w c m held) d (rw (h .fits .tasks) d)
         (rw (h .fits .messages) numbered) (rw (h .fits .places) numbered)
 
     -- ---- a held one, addressed first
-    abbrev new : Message
-    new = let u = message b m in
-        withSptr (withRptr (withPrio u (ownPrio (u .prio) (task b c .prio))) r) (cond (eqb (u .sptr) 0) c (u .sptr))
-
     abbrev e : Board
     e = addressed b c m r
 
     plain-addressed : plain.addressed p c m r ≡ plainOf e l s n
-    plain-addressed = plain-message l s n b m new (rw (h .fits .messages) numbered)
-
-    addressed-reads : message e m ≡ new
-    addressed-reads = message-put b m new (rw (h .fits .messages) numbered)
-
-    -- it goes where its new priority puts it
-    addressed-queue : placed e f m (message e m .prio) r ≡ sent b c f m r
-    addressed-queue =
-        let prio : ℕ = new .prio in
-        ap (λ (u : Message). placed e f m (u .prio) r) addressed-reads
-        ∙ ap (changed f r) (insert-stays (λ y. goesBefore (fifo prio) (number prio) (messageNumber e y))
-        (λ y. goesBefore (fifo prio) (number prio) (messageNumber b y)) m (f r)
-        (λ y i. ap (λ (u : Message). goesBefore (fifo prio) (number prio) (number (u .prio)))
-        (message-other b m y new (unqueued-out z b q f h m (ap isQueued held) r d y i))))
+    plain-addressed = plain-message l s n b m (newRecord b c m r) (rw (h .fits .messages) numbered)
 
     -- send
-    pub send-same : Same z (send z b c m r) q (sent b c f m r) (plain.place (plain.addressed (plainOf b l s n) c m r) m r)
+    pub send-same : Same z (send z b c m r) q (queuesAfter b f (IntoQueue m (ownPrio (message b m .prio) (task b c .prio)) r))
+        (plain.place (plain.addressed (plainOf b l s n) c m r) m r)
     send-same =
         let apart = held-apart z b q f a h l s n w c m held in
         let v : Named z (plainOf e l s n) q f =
         subst (λ (x : Plain). Named z x q f) plain-addressed (named-block z p q f w m _ apart) in
-        subst (λ (g : ℕ → List ℕ). Same z (send z b c m r) q g (plain.place (plain.addressed p c m r) m r)) addressed-queue
-        (subst (λ (x : Plain). Same z (send z b c m r) q (placed e f m (message e m .prio) r) (plain.place x m r))
+        subst (λ (g : ℕ → List ℕ). Same z (send z b c m r) q g (plain.place (plain.addressed p c m r) m r)) (addressed-queue z b q f h m r c held d)
+        (subst (λ (x : Plain). Same z (send z b c m r) q (queuesAfter e f (IntoQueue m (message e m .prio) r)) (plain.place x m r))
         (sym plain-addressed) (place-same z e q f l s n v m r apart d (rw (h .fits .tasks) d)
-        (rw (length-put (b .messages) m new, h .fits .messages) numbered) (rw (h .fits .places) numbered)))
+        (rw (length-put (b .messages) m (newRecord b c m r), h .fits .messages) numbered) (rw (h .fits .places) numbered)))
 
   -- ---- the wait
   -- for a message, or to be handed one that is queued

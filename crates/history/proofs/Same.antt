@@ -22,7 +22,7 @@ use Rattle.paper.specs.Effects.{install, cancelTask, post, waitInterrupt, lowes
 use Rattle.linked.specs.Linked.{Numbered}
 use Rattle.linked.proofs.Running.{lowest-free}
 use Rattle.kept.specs.Settled.{Settled}
-use Rattle.kept.specs.After.{orderAfter}
+use Rattle.kept.specs.Touched.{IntoOrder, OutOfOrder, orderAfter}
 use Rattle.kept.specs.Claims.{Sizes}
 use Rattle.kept.proofs.Reading.{cond-holds}
 use Rattle.kept.proofs.Holding.{held-numbered}
@@ -112,7 +112,7 @@ module _ (z : Size) (b : Board) (q : List ℕ) (f : ℕ → List ℕ) (a : Sizes
   -- ---- tasks
   -- install
   pub install-same : (k t prio sptr name : ℕ) → Numbered (z .tasks) k → present b k ≡ false
-      → Same z (install z b k t prio sptr name) (orderAfter b q (Install k t prio sptr name)) f
+      → Same z (install z b k t prio sptr name) (orderAfter b q (IntoOrder k prio)) f
       (plain.install (plainOf b l s n) k t prio sptr name)
   install-same k t prio sptr name d absent =
       same-at (plain.install p k t prio sptr name .installs) s (plain.install p k t prio sptr name .clock)
@@ -122,7 +122,7 @@ module _ (z : Size) (b : Board) (q : List ℕ) (f : ℕ → List ℕ) (a : Sizes
 
   -- cancel task
   pub cancel-same : (k : ℕ) → Numbered (z .tasks) k
-      → Same z (cancelTask z b k) (orderAfter b q (CancelTask k)) f (plain.cancelTask (plainOf b l s n) k)
+      → Same z (cancelTask z b k) (orderAfter b q (OutOfOrder k)) f (plain.cancelTask (plainOf b l s n) k)
   cancel-same k d =
       same-at (plain.cancelTask p k .installs) s n
       (plain-cancel z l s n b k (task-there k d))

@@ -13,10 +13,11 @@ use Rattle.paper.proofs.Rows.{row-own}
 use Rattle.paper.specs.Refusals.{ownRow, Verdict, Go, Stop, lowest}
 use Rattle.paper.specs.Outcomes as paper
 use Rattle.kept.specs.Settled.{Settled, Fitting}
-use Rattle.kept.specs.After.{orderAfter, queuesAfter}
+use Rattle.kept.specs.Touched.{Touched, touched, orderAfter, queuesAfter}
 use Rattle.kept.specs.Claims.{Sizes, Bytes}
 use Rattle.kept.proofs.Fitting.{board-bytes}
-use Rattle.kept.proofs.Theorems.{body-settles, passing-sound, sound-runner, passing-stays-passing}
+use Rattle.kept.proofs.Theorems.{passing-sound, sound-runner, passing-stays-passing}
+use Rattle.kept.proofs.Bodies.{body-settles}
 use Rattle.history.specs.Ranking.{Entry}
 use Rattle.history.specs.Machine as plain
 use Rattle.history.specs.Machine.{Plain, Played, Result}
@@ -74,7 +75,7 @@ module _ (z : Size) (a : Sizes z) (bytes : List ℕ) (call : Call) (fits : Fitti
   abbrev e : Played
   e = plain.play z p c call
 
-  alike : Alike z (ownRow z b c call) d (orderAfter b q call) (queuesAfter b c f call) e
+  alike : Alike z (ownRow z b c call) d (orderAfter b q (touched b c call .move)) (queuesAfter b f (touched b c call .move)) e
   alike = calls-alike z b q f a h l s n w call
 
   -- the body, and then dispatch

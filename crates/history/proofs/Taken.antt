@@ -25,7 +25,7 @@ use Rattle.paper.specs.Effects.{cancelMessage}
 use Rattle.linked.specs.Linked.{Numbered}
 use Rattle.linked.proofs.Running.{placed-numbered}
 use Rattle.kept.specs.Settled.{Settled}
-use Rattle.kept.specs.After.{changed}
+use Rattle.kept.specs.Touched.{changed}
 use Rattle.kept.specs.Claims.{Sizes}
 use Rattle.kept.proofs.Reading.{cond-holds, task-put, queued-placed, queue-walked}
 use Rattle.kept.proofs.Relinked.{requeued-is}

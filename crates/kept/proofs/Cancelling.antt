@@ -29,7 +29,7 @@ use Rattle.paper.specs.Refusals.{no3, no6, holdsOne, no10, ownRow, Go, lowest}
 use Rattle.linked.specs.Linked.{Numbered}
 use Rattle.linked.proofs.Running.{present-numbered, which-none}
 use Rattle.kept.specs.Settled.{Settled}
-use Rattle.kept.specs.After.{orderAfter}
+use Rattle.kept.specs.Touched.{OutOfOrder, orderAfter}
 use Rattle.kept.specs.Claims.{Sizes}
 use Rattle.kept.proofs.Reading.{task-put, task-other, sorted-stays}
 use Rattle.kept.proofs.Reading.{good-stays, order-walked, go-passed, task-passed}
@@ -119,7 +119,7 @@ module _ (z : Size) (b : Board) (q : List ℕ) (queues : ℕ → List ℕ) (a : 
 
   -- so its row has it
   pub cancel-settled : (c : ℕ) → lowest (ownRow z b c (CancelTask k)) ≡ Go
-      → Settled z (cancelTask z b k) (orderAfter b q (CancelTask k)) queues
+      → Settled z (cancelTask z b k) (orderAfter b q (OutOfOrder k)) queues
   cancel-settled c g =
       let runs = go-passed (no3 c) (no6 z b k ∷ no10 b k ∷ []) g in
       let meant = go-passed (no6 z b k) (no10 b k ∷ []) (runs .1) in

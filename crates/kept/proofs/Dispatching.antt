@@ -16,7 +16,7 @@ use Rattle.paper.specs.Rules.{present, queue, emptyQueue, ready, running}
 use Rattle.paper.specs.Changes.{clears, takeFirst}
 use Rattle.paper.specs.Outcomes.{accepted, Undispatched, undispatched, dispatch}
 use Rattle.kept.specs.Settled.{Settled}
-use Rattle.kept.specs.After.{changed}
+use Rattle.kept.specs.Touched.{changed}
 use Rattle.kept.specs.Claims.{Sizes}
 use Rattle.kept.proofs.Reading.{task-put, task-alike, order-walked}
 use Rattle.kept.proofs.Taking.{take-stat, due-queued, deliver-settled}

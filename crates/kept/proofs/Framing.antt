@@ -18,7 +18,7 @@ use Rattle.board.specs.Records.{noTask, noMessage, taskWithStat, taskWithLink, 
 use Rattle.board.specs.Board.{Board, nth, put, task, message, place, withFirst, withTasks, withMessages, withPlaces, withTask, withMessage, withPlace}
 use Rattle.board.proofs.Numbered.{nth-put-other, nth-alike}
 use Rattle.paper.specs.Changes.{linkTask, linkMessage, withQueue, withOrder}
-use Rattle.kept.specs.Frames.{Frame}
+use Rattle.kept.specs.Touched.{Frame}
 use Rattle.kept.proofs.Reading.{task-alike}
 
 -- ---- a record that isn't written

@@ -38,7 +38,7 @@ use Rattle.linked.specs.Sound.{Proper, PlaceGood}
 use Rattle.linked.proofs.Tests.{says-goodHead}
 use Rattle.linked.proofs.Running.{present-numbered}
 use Rattle.kept.specs.Settled.{Word, FitsTask, Fits, Settled, Fitting}
-use Rattle.kept.specs.After.{orderAfter}
+use Rattle.kept.specs.Touched.{IntoOrder, orderAfter}
 use Rattle.kept.specs.Claims.{Sizes}
 use Rattle.kept.proofs.Reading.{nth-cases, task-put, task-other, task-alike, fits-first, fits-task}
 use Rattle.kept.proofs.Reading.{relink-keeps, first-holds, relink-holds, sorted-stays, listing-stays, listing-start}
@@ -235,7 +235,7 @@ module _ (z : Size) (b : Board) (q : List ℕ) (queues : ℕ → List ℕ) (a : 
 
   -- so its row has it
   pub install-settled : (c : ℕ) → Fitting (Install k stat p sptr name) → lowest (ownRow z b c (Install k stat p sptr name)) ≡ Go
-      → Settled z (install z b k stat p sptr name) (orderAfter b q (Install k stat p sptr name)) queues
+      → Settled z (install z b k stat p sptr name) (orderAfter b q (IntoOrder k p)) queues
   install-settled c f g =
       let prio = go-passed (no7Install p) (no8 z b k ∷ no9 stat ∷ []) g in
       let room = go-passed (no8 z b k) (no9 stat ∷ []) (prio .1) in

@@ -10,6 +10,7 @@ pub mod Moving
 pub mod Placing
 pub mod Taking
 pub mod Dispatching
-pub mod Theorems
 pub mod Framing
 pub mod Framed
+pub mod Bodies
+pub mod Theorems

@@ -30,7 +30,7 @@ use Rattle.linked.specs.Linked.{Numbered, Listing}
 use Rattle.linked.specs.Sound.{Pointers, PlaceGood, Flags}
 use Rattle.linked.proofs.Running.{present-numbered, placed-numbered}
 use Rattle.kept.specs.Settled.{Word, FitsMessage, Fits, Settled}
-use Rattle.kept.specs.After.{changed}
+use Rattle.kept.specs.Touched.{changed}
 use Rattle.kept.specs.Claims.{Sizes}
 use Rattle.kept.proofs.Reading.{FitsPlace, Lawful, nth-cases, task-put, task-other, task-alike, message-put, place-put, place-other}
 use Rattle.kept.proofs.Reading.{queued-placed, fits-message, fits-place}

@@ -33,7 +33,7 @@ use Rattle.paper.specs.Refusals.{Test, no3, no4, no5, no6, no7, ownRow, Go, low
 use Rattle.linked.specs.Linked.{Numbered}
 use Rattle.linked.proofs.Running.{runner-says}
 use Rattle.kept.specs.Settled.{Byte, Word, Settled}
-use Rattle.kept.specs.After.{changed, placed, sent, queuesAfter}
+use Rattle.kept.specs.Touched.{IntoQueue, changed, queuesAfter}
 use Rattle.kept.specs.Claims.{Sizes}
 use Rattle.kept.proofs.Reading.{cond-holds, task-alike, message-put, message-other, place-put, present-proper}
 use Rattle.kept.proofs.Reading.{queue-walked, go-passed, runner-passed, held-passed, task-passed}
@@ -104,7 +104,7 @@ module _ (z : Size) (b : Board) (order : List ℕ) (queues : ℕ → List ℕ) (
       }
 
   -- a held message goes into the queue of a present task, where its priority puts it
-  pub place-settled : Settled z (placeAt z b m r) order (placed b queues m (message b m .prio) r)
+  pub place-settled : Settled z (placeAt z b m r) order (queuesAfter b queues (IntoQueue m (message b m .prio) r))
   place-settled =
       let d = moved-settled z b order queues sizes settled r q m w (QueuedAt (taskNo r)) place-move in
       let n = rw (← settled .fits .places) at (held-numbered z b order queues settled m c held) in
@@ -119,7 +119,7 @@ module _ (z : Size) (b : Board) (order : List ℕ) (queues : ℕ → List ℕ) (
 
   -- and may then wait
   pub place-waits : (k : ℕ) → (present b k ≡ true) × (has (task b k .stat) WAIT ≡ false) × (has (task b k .stat) IWAT ≡ false)
-      → WithWait z b order k (placeAt z b m r) (placed b queues m (message b m .prio) r)
+      → WithWait z b order k (placeAt z b m r) (queuesAfter b queues (IntoQueue m (message b m .prio) r))
   place-waits k (h, v, i) =
       let e = place-stat k v in (
         place-settled,
@@ -128,55 +128,64 @@ module _ (z : Size) (b : Board) (order : List ℕ) (queues : ℕ → List ℕ) (
       )
 
 -- ---- the message of a send
+-- its record, addressed
+abbrev pub newRecord : Board → ℕ → ℕ → ℕ → Message
+newRecord b c m r = let u = message b m in
+    withSptr (withRptr (withPrio u (ownPrio (u .prio) (task b c .prio))) r) (cond (eqb (u .sptr) 0) c (u .sptr))
+
+module _ (z : Size) (b : Board) (order : List ℕ) (queues : ℕ → List ℕ) (settled : Settled z b order queues)
+    (m r c : ℕ) (held : place b m ≡ HeldBy (taskNo c)) where
+  abbrev new : Message
+  new = newRecord b c m r
+
+  pub addressed-reads : message (addressed b c m r) m ≡ newRecord b c m r
+  addressed-reads = message-put b m new (rw (← settled .fits .messages) at (held-numbered z b order queues settled m c held))
+
+  -- it goes where its new priority puts it
+  pub addressed-queue : Numbered (z .tasks) r
+      → queuesAfter (addressed b c m r) queues (IntoQueue m (message (addressed b c m r) m .prio) r)
+      ≡ queuesAfter b queues (IntoQueue m (ownPrio (message b m .prio) (task b c .prio)) r)
+  addressed-queue n =
+      let d : Board = addressed b c m r in
+      let p : ℕ = new .prio in
+      ap (λ (x : Message). queuesAfter d queues (IntoQueue m (x .prio) r)) addressed-reads
+      ∙ ap (changed queues r) (insert-stays (λ x. goesBefore (fifo p) (number p) (messageNumber d x))
+      (λ x. goesBefore (fifo p) (number p) (messageNumber b x)) m (queues r)
+      (λ y i. ap (λ (x : Message). goesBefore (fifo p) (number p) (number (x .prio))) (message-other b m y new
+      (unqueued-out z b order queues settled m (ap isQueued held) r n y i))))
+
 module _ (z : Size) (b : Board) (order : List ℕ) (queues : ℕ → List ℕ) (sizes : Sizes z) (settled : Settled z b order queues)
     (m r c : ℕ) (held : place b m ≡ HeldBy (taskNo c)) (there : present b r ≡ true) (runs : present b c ≡ true) where
-  abbrev t : Message
-  t = message b m
-
-  abbrev new : Message
-  new = withSptr (withRptr (withPrio t (ownPrio (t .prio) (task b c .prio))) r) (cond (eqb (t .sptr) 0) c (t .sptr))
+  abbrev u : Message
+  u = message b m
 
   numbered : (k : ℕ) → present b k ≡ true → Numbered (z .tasks) k
   numbered k h = task-numbered z b order queues settled k h
-
-  addressed-reads : message (addressed b c m r) m ≡ new
-  addressed-reads = message-put b m new (rw (← settled .fits .messages) at (held-numbered z b order queues settled m c held))
 
   -- its priority number isn't 127
   addressed-low : number (message (addressed b c m r) m .prio) ≢ 127
   addressed-low =
       let h = present-proper (task b c) (settled .records c (numbered c runs)) runs in
-      rw addressed-reads (cond-holds (λ (p : ℕ). number p ≢ 127) (eqb (number (t .prio)) 127) _ _
-      (λ e d. omega (arith, h .high)) (λ e. eqb-false (number (t .prio)) 127 e))
+      rw (addressed-reads z b order queues settled m r c held) (cond-holds (λ (p : ℕ). number p ≢ 127) (eqb (number (u .prio)) 127) _ _
+      (λ e d. omega (arith, h .high)) (λ e. eqb-false (number (u .prio)) 127 e))
 
   -- it stands in no queue, so all the queues stay
   pub addressed-settled : Settled z (addressed b c m r) order queues
   addressed-settled =
       let f = settled .fits .message m in
       let k = held-good z b order queues settled m c held in
-      settled-record z b order queues settled m c held new
+      settled-record z b order queues settled m c held (newRecord b c m r)
       (record {
         stat = f .stat;
-        prio = cond-holds Byte (eqb (number (t .prio)) 127) _ _ (λ e. omega (arith, settled .fits .task c .prio)) (λ e. f .prio);
+        prio = cond-holds Byte (eqb (number (u .prio)) 127) _ _ (λ e. omega (arith, settled .fits .task c .prio)) (λ e. f .prio);
         link = f .link;
         rptr = omega (arith, numbered r there .1, sizes .tasks);
-        sptr = cond-holds Word (eqb (t .sptr) 0) _ _ (λ e. omega (arith, numbered c runs .1, sizes .tasks)) (λ e. f .sptr);
+        sptr = cond-holds Word (eqb (u .sptr) 0) _ _ (λ e. omega (arith, numbered c runs .1, sizes .tasks)) (λ e. f .sptr);
       })
       (record {
         receiver = numbered r there .1;
-        sender = cond-holds (λ (x : ℕ). x ≤ z .tasks) (eqb (t .sptr) 0) _ _ (λ e. numbered c runs .1) (λ e. k .0 .sender);
+        sender = cond-holds (λ (x : ℕ). x ≤ z .tasks) (eqb (u .sptr) 0) _ _ (λ e. numbered c runs .1) (λ e. k .0 .sender);
       }) (k .1)
-
-  -- it goes where its new priority puts it
-  addressed-queue : placed (addressed b c m r) queues m (message (addressed b c m r) m .prio) r ≡ sent b c queues m r
-  addressed-queue =
-      let d : Board = addressed b c m r in
-      let p : ℕ = new .prio in
-      ap (λ (x : Message). placed d queues m (x .prio) r) addressed-reads
-      ∙ ap (changed queues r) (insert-stays (λ x. goesBefore (fifo p) (number p) (messageNumber d x))
-      (λ x. goesBefore (fifo p) (number p) (messageNumber b x)) m (queues r)
-      (λ y i. ap (λ (x : Message). goesBefore (fifo p) (number p) (number (x .prio))) (message-other b m y new
-      (unqueued-out z b order queues settled m (ap isQueued held) r (numbered r there) y i))))
 
 -- ---- the calls, each with its wait form
 module _ (z : Size) (b : Board) (order : List ℕ) (queues : ℕ → List ℕ) (sizes : Sizes z) (settled : Settled z b order queues) where
@@ -194,19 +203,19 @@ module _ (z : Size) (b : Board) (order : List ℕ) (queues : ℕ → List ℕ) (
 
   -- send: the message addressed, then placed
   pub send-settled : (m r : ℕ) → let c = running z b in lowest (ownRow z b c (Send m r)) ≡ Go
-      → WithWait z b order c (send z b c m r) (queuesAfter b c queues (Send m r))
+      → WithWait z b order c (send z b c m r) (queuesAfter b queues (IntoQueue m (ownPrio (message b m .prio) (task b c .prio)) r))
   send-settled m r g =
       let c : ℕ = running z b in
       let (n, held, there, h) = sender-passed m r [] g in
       let s = runner-says z b n in
-      subst (WithWait z b order c (send z b c m r)) (addressed-queue z b order queues sizes settled m r c held there (s .0))
+      subst (WithWait z b order c (send z b c m r)) (addressed-queue z b order queues settled m r c held (task-numbered z b order queues settled r there))
       (place-waits z (addressed b c m r) order queues sizes
       (addressed-settled z b order queues sizes settled m r c held there (s .0)) m r c held there
       (addressed-low z b order queues sizes settled m r c held there (s .0)) c s)
 
   -- forward: placed as it is, for refusal 7 has passed
   pub forward-settled : (m r : ℕ) → let c = running z b in lowest (ownRow z b c (Forward m r)) ≡ Go
-      → WithWait z b order c (forward z b m r) (queuesAfter b c queues (Forward m r))
+      → WithWait z b order c (forward z b m r) (queuesAfter b queues (IntoQueue m (message b m .prio) r))
   forward-settled m r g =
       let (n, held, there, h) = sender-passed m r (no7 b m ∷ []) g in
       place-waits z b order queues sizes settled m r (running z b) held there
@@ -214,10 +223,10 @@ module _ (z : Size) (b : Board) (order : List ℕ) (queues : ℕ → List ℕ) (
 
   -- resend: at the task that RPTR names
   pub resend-settled : (m : ℕ) → let c = running z b in lowest (ownRow z b c (Resend m)) ≡ Go
-      → WithWait z b order c (resend z b m) (queuesAfter b c queues (Resend m))
+      → WithWait z b order c (resend z b m) (queuesAfter b queues (IntoQueue m (message b m .prio) (message b m .rptr)))
   resend-settled m g = forward-settled m (message b m .rptr) g
 
   -- return: at the task that SPTR names
   pub return-settled : (m : ℕ) → let c = running z b in lowest (ownRow z b c (Return m)) ≡ Go
-      → WithWait z b order c (giveBack z b m) (queuesAfter b c queues (Return m))
+      → WithWait z b order c (giveBack z b m) (queuesAfter b queues (IntoQueue m (message b m .prio) (message b m .sptr)))
   return-settled m g = forward-settled m (message b m .sptr) g

@@ -12,7 +12,7 @@ use borrow.Author.Tests.{eq-eqb, eqb-true, not-false}
 use Rattle.links.specs.Queue.{firstOf, restOf, without}
 use Rattle.links.specs.Chain.{In, Once, Chain}
 use Rattle.links.proofs.Members.{out-not-in}
-use Rattle.links.proofs.Chains.{chain-once, walk-end}
+use Rattle.links.proofs.Chains.{chain-first, chain-once, walk-end}
 use Rattle.links.proofs.Removal.{rest-without, in-without, out-without, once-without, sorted-without}
 use Rattle.board.specs.declared.numbers.Size.{Size}
 use Rattle.board.specs.declared.status.Status.{Status}
@@ -37,7 +37,7 @@ use Rattle.linked.specs.Sound.{PlaceGood}
 use Rattle.linked.proofs.Tests.{says-isQueuedAt}
 use Rattle.linked.proofs.Running.{placed-numbered, runner-says}
 use Rattle.kept.specs.Settled.{Settled}
-use Rattle.kept.specs.After.{changed, queuesAfter}
+use Rattle.kept.specs.Touched.{OutOfQueue, changed, queuesAfter}
 use Rattle.kept.specs.Claims.{Sizes}
 use Rattle.kept.proofs.Reading.{cond-holds, message-put, queued-placed}
 use Rattle.kept.proofs.Reading.{queue-walked, go-passed, runner-passed, task-passed}
@@ -98,6 +98,14 @@ module _ (z : Size) (b : Board) (order : List ℕ) (queues : ℕ → List ℕ) (
       (moved-settled z b order queues sizes settled r q m w (HeldBy (taskNo c)) out-move)
 
 -- ---- the first of its own queue
+-- MPTR names the first of the queue, so what is left without it is the rest
+pub first-left : (z : Size) (b : Board) (order : List ℕ) (queues : ℕ → List ℕ) → Settled z b order queues → (c : ℕ)
+    → Numbered (z .tasks) c → without (task b c .mptr) (queues c) ≡ restOf (queues c)
+first-left z b order queues s c n =
+    ap (λ (m : ℕ). without m (queues c))
+    (chain-first (nextMessage b) (task b c .mptr) (queues c) (s .linked .messages c n .chain))
+    ∙ rest-without (queues c)
+
 -- no status changes
 pub take-stat : (z : Size) (b : Board) (c k : ℕ) → task (takeFirst z b c) k .stat ≡ task b k .stat
 take-stat z b c k = requeued-stat b c (restOf (queue z b c)) k
@@ -180,14 +188,17 @@ queued-passed r p e = says-isQueuedAt r p .0 (not-false (isQueuedAt r p) e)
 module _ (z : Size) (b : Board) (order : List ℕ) (queues : ℕ → List ℕ) (sizes : Sizes z) (settled : Settled z b order queues) where
   -- receive: the first of its queue, or none
   pub receive-settled : let c = running z b in has (task b c .stat) MHBS ≡ false → lowest (ownRow z b c Receive) ≡ Go
-      → Settled z (takeFirst z b c) order (queuesAfter b c queues Receive)
+      → Settled z (takeFirst z b c) order (queuesAfter b queues (OutOfQueue (task b c .mptr) c))
   receive-settled e g =
       let c : ℕ = running z b in
-      take-settled z b order queues sizes settled c (runner-says z b (runner-passed c (go-passed (no3 c) [] g .0)) .0) e
+      let runs = runner-says z b (runner-passed c (go-passed (no3 c) [] g .0)) .0 in
+      subst (λ (q : List ℕ). Settled z (takeFirst z b c) order (changed queues c q))
+      (sym (first-left z b order queues settled c (task-numbered z b order queues settled c runs)))
+      (take-settled z b order queues sizes settled c runs e)
 
   -- cancel message: out of the queue of the task meant
   pub cancel-message-settled : (m r : ℕ) → let c = running z b in lowest (ownRow z b c (CancelMessage m r)) ≡ Go
-      → Settled z (cancelMessage z b c m r) order (queuesAfter b c queues (CancelMessage m r))
+      → Settled z (cancelMessage z b c m r) order (queuesAfter b queues (OutOfQueue m r))
   cancel-message-settled m r g =
       let c : ℕ = running z b in
       let s = go-passed (no3 c) (no4 z m ∷ no6 z b r ∷ no12 b m r ∷ no13 b c m ∷ []) g in

@@ -1,4 +1,4 @@
--- The claims of specs/Claims, proved: every body leaves R1 to R6, dispatch is never stuck, and a board that passes goes on passing.
+-- Claims of specs/Claims, proved: dispatch is never stuck, and a board that passes goes on passing.
 -- Assumes nothing.
 use mathlib.Core.Path.{_≡_, refl, sym, ap, _∙_, subst}
 use mathlib.Core.Logic.{_≢_}
@@ -16,7 +16,6 @@ use Rattle.board.specs.Numbers.{small}
 use Rattle.board.specs.Status.{MHBS, has}
 use Rattle.board.specs.Board.{Board, boardOf, bytesOf, task}
 use Rattle.paper.specs.declared.call.Call.{Call}
-use Rattle.paper.specs.declared.call.Call.the-variants.{Install, PostInterrupt, Find, CancelTask, Claim, Prepare, Release, Send, SendAndWait, Resend, ResendAndWait, Forward, ForwardAndWait, Return, ReturnAndWait, Receive, ReceiveAndWait, CancelMessage, WaitForInterrupt}
 use Rattle.paper.specs.declared.answer.Refusal.{Refusal}
 use Rattle.paper.specs.declared.answer.Refusal.the-variants.{WrongLength, RuleBroken, NothingToDeliver}
 use Rattle.paper.specs.declared.answer.Answer.{Answer}
@@ -30,44 +29,16 @@ use Rattle.linked.specs.Linked.{Linked}
 use Rattle.linked.specs.Sound.{Sound}
 use Rattle.linked.proofs.Boards.{says-passes}
 use Rattle.kept.specs.Settled.{Fits, Settled, Fitting}
-use Rattle.kept.specs.After.{orderAfter, queuesAfter}
-use Rattle.kept.specs.Claims.{Sizes, Bytes, BodySettles, NeverStuck, PassingStaysPassing}
+use Rattle.kept.specs.Touched.{Touched, touched, orderAfter, queuesAfter}
+use Rattle.kept.specs.Claims.{Sizes, Bytes, NeverStuck, PassingStaysPassing}
 use Rattle.kept.proofs.Reading.{order-walked, go-passed}
-use Rattle.kept.proofs.Flagging.{post-settled, wait-settled}
-use Rattle.kept.proofs.Holding.{claim-settled, release-settled, prepare-settled}
-use Rattle.kept.proofs.Installing.{install-settled}
-use Rattle.kept.proofs.Cancelling.{cancel-settled}
 use Rattle.kept.proofs.Fitting.{board-bytes, bytes-fit, fits-board}
-use Rattle.kept.proofs.Waiting.{receive-and-wait-settled}
-use Rattle.kept.proofs.Placing.{send-settled, resend-settled, forward-settled, return-settled}
-use Rattle.kept.proofs.Taking.{receive-settled, cancel-message-settled}
+use Rattle.kept.proofs.Bodies.{body-settles}
 use Rattle.kept.proofs.Dispatching.{Handing, dispatched}
 
 -- the small board's sizes are such that all promises hold
 pub small-sizes : Sizes small
 small-sizes = record { tasks = lit≤ tt; limit = lit≤ tt; links = lit< tt }
-
--- ---- the body of each call
-pub body-settles : BodySettles
-body-settles z b q f (Install k s p sptr name) a w h m g = install-settled z b q f a h k s p sptr name (running z b) w g
-body-settles z b q f (PostInterrupt k) a w h m g = post-settled z b q f h (running z b) k g
-body-settles z b q f (Find name) a w h m g = h
-body-settles z b q f (CancelTask k) a w h m g = cancel-settled z b q f a h k (running z b) g
-body-settles z b q f Claim a w h m g = claim-settled z b q f a h g
-body-settles z b q f (Prepare n s p sptr) a w h m g = prepare-settled z b q f h (running z b) n s p sptr w g
-body-settles z b q f (Release n) a w h m g = release-settled z b q f h (running z b) n g
-body-settles z b q f (Send n r) a w h m g = send-settled z b q f a h n r g .0
-body-settles z b q f (SendAndWait n r) a w h m g = send-settled z b q f a h n r g .1 m
-body-settles z b q f (Resend n) a w h m g = resend-settled z b q f a h n g .0
-body-settles z b q f (ResendAndWait n) a w h m g = resend-settled z b q f a h n g .1 m
-body-settles z b q f (Forward n r) a w h m g = forward-settled z b q f a h n r g .0
-body-settles z b q f (ForwardAndWait n r) a w h m g = forward-settled z b q f a h n r g .1 m
-body-settles z b q f (Return n) a w h m g = return-settled z b q f a h n g .0
-body-settles z b q f (ReturnAndWait n) a w h m g = return-settled z b q f a h n g .1 m
-body-settles z b q f Receive a w h m g = receive-settled z b q f a h m g
-body-settles z b q f ReceiveAndWait a w h m g = receive-and-wait-settled z b q f h m g
-body-settles z b q f (CancelMessage n r) a w h m g = cancel-message-settled z b q f a h n r g
-body-settles z b q f WaitForInterrupt a w h m g = wait-settled z b q f h m g
 
 -- ---- a board that passes is settled, with nobody due a message who runs; and the other way round
 module _ (z : Size) (b : Board) (a : Sizes z) (f : Fits z b) where
@@ -113,14 +84,14 @@ module _ (z : Size) (l : List ℕ) (call : Call) (a : Sizes z) (h : Bytes z l) (
   d = body z b (running z b) call
 
   -- what dispatch makes of a call that no refusal stops
-  went : lowest (row z l b (running z b) call) ≡ Go → Handing z (orderAfter b (order z b) call) l d
+  went : lowest (row z l b (running z b) call) ≡ Go → Handing z (orderAfter b (order z b) (touched b (running z b) call .move)) l d
   went g =
       let long = go-passed (no1 z l) (no2 z b ∷ ownRow z b (running z b) call) g in
       let rules = go-passed (no2 z b) (ownRow z b (running z b) call) (long .1) in
       let f = fits-board z l h in
       let s = passing-sound z b a f (not-false (passes z b) (rules .0)) in
       let t = walked-settled z b a f (s .order) (s .queues) (sound-settled z b a f s) in
-      dispatched z (orderAfter b (order z b) call) l (queuesAfter b (running z b) (s .queues) call) (d .value) (d .board) a
+      dispatched z (orderAfter b (order z b) (touched b (running z b) call .move)) l (queuesAfter b (s .queues) (touched b (running z b) call .move)) (d .value) (d .board) a
       (body-settles z b (order z b) (s .queues) call a w t (sound-runner z b a f s) (rules .1))
 
   -- it is not refused

@@ -1,6 +1,6 @@
 -- What calls keep, as statements; their proofs are in proofs/Theorems, those of the frames in proofs/Framed. A reader must believe this file.
---   BodySettles          the body of a call that no refusal of its row stops leaves R1 to R6, and the lists that After says
---   BodyFrame           it changes only the records that Frames says; DispatchFrame: dispatch only the running task and its message
+--   BodySettles          the body of a call that no refusal of its row stops leaves R1 to R6, and the lists that its move says
+--   BodyFrame           it changes only the records that the call touches; DispatchFrame: dispatch only the running task and its message
 --   NeverStuck          refusal 15 is given on no board that passes
 --   PassingStaysPassing an accepted call on a board that passes leaves one that passes
 -- Assumes nothing.
@@ -23,8 +23,7 @@ use Rattle.paper.specs.Changes.{clears, takeFirst}
 use Rattle.paper.specs.Refusals.{ownRow, Go, lowest}
 use Rattle.paper.specs.Outcomes.{Outcome, Undispatched, body, effect}
 use Rattle.kept.specs.Settled.{Byte, Settled, Fitting}
-use Rattle.kept.specs.After.{orderAfter, queuesAfter}
-use Rattle.kept.specs.Frames.{tasksOf, messagesOf, queueOf, relinks, Frame}
+use Rattle.kept.specs.Touched.{Touched, touched, orderAfter, queuesAfter, queueOf, relinks, Frame}
 
 -- sizes for which a place byte tells held from queued and both from 128, links are words, and one limit serves both kinds of walk
 pub record Sizes (z : Size) : Type 0 where
@@ -36,14 +35,15 @@ abbrev pub BodySettles : Type 0
 BodySettles =
     (z : Size) (b : Board) (order : List ℕ) (queues : ℕ → List ℕ) (call : Call) → Sizes z → Fitting call → Settled z b order queues
     → let c = running z b in has (task b c .stat) MHBS ≡ false → lowest (ownRow z b c call) ≡ Go
-    → Settled z (body z b c call .board) (orderAfter b order call) (queuesAfter b c queues call)
+    → let move = touched b c call .move in Settled z (body z b c call .board) (orderAfter b order move) (queuesAfter b queues move)
 
 -- ---- what else stays
 abbrev pub BodyFrame : Type 0
 BodyFrame =
     (z : Size) (b : Board) (order : List ℕ) (queues : ℕ → List ℕ) (call : Call) → Sizes z → Settled z b order queues
     → let c = running z b in lowest (ownRow z b c call) ≡ Go
-    → Frame b (body z b c call .board) (tasksOf b c call) (messagesOf b c call) (queue z b (queueOf b c call)) (relinks call)
+    → let t = touched b c call in
+    Frame b (body z b c call .board) (t .tasks) (t .messages) (queue z b (queueOf (t .move))) (relinks (t .move))
 
 abbrev pub DispatchFrame : Type 0
 DispatchFrame =

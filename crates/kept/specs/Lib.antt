@@ -1,4 +1,3 @@
 pub mod Settled
-pub mod After
-pub mod Frames
+pub mod Touched
 pub mod Claims

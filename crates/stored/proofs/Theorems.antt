@@ -22,10 +22,11 @@ use Rattle.paper.specs.Refusals.{no1, no2, ownRow, row, Verdict, Go, Stop, lowe
 use Rattle.paper.specs.Outcomes.{Outcome, Undispatched, undispatched, accepted, refused, judge, body, deliver, dispatch, effect}
 use Rattle.kept.specs.Claims.{Sizes, Bytes}
 use Rattle.kept.specs.Settled.{Settled, Fitting}
-use Rattle.kept.specs.After.{orderAfter, queuesAfter}
+use Rattle.kept.specs.Touched.{Touched, touched, orderAfter, queuesAfter}
 use Rattle.kept.proofs.Fitting.{fits-board}
 use Rattle.kept.proofs.Dispatching.{dispatch-delivers}
-use Rattle.kept.proofs.Theorems.{body-settles, passing-sound, sound-settled, sound-runner}
+use Rattle.kept.proofs.Theorems.{passing-sound, sound-settled, sound-runner}
+use Rattle.kept.proofs.Bodies.{body-settles}
 use Rattle.queue.specs.Moves.{clearsIn}
 use Rattle.inner.specs.Inner.{stepBy, bytesBy}
 use Rattle.inner.specs.Stores.{Stored, bodyIn, takeIn, deliverIn, dispatchIn, finish, calledIn}
@@ -97,13 +98,14 @@ module _ (z : Size) (l : List ℕ) (call : Call) (a : Sizes z) (h : Bytes z l) (
   goes : lowest (ownRow z before runner call) ≡ Go → Small (dispatchIn z (stores .value) (stores .after) .after)
       → dispatchIn z (stores .value) (stores .after) ≡ dispatch z l (body z before runner call)
   goes g small =
+      let move = touched before runner call .move in
       let f = fits-board z l h in
       let s = passing-sound z before a f p in
       let t = sound-settled z before a f s in
       let c = body-comes z l (h .long) a (s .order) (s .queues) t call g in
       let after = body-settles z before (s .order) (s .queues) call a w t (sound-runner z before a f s) g in
-      dispatch-comes z l (stores .after) (stores .value) a (orderAfter before (s .order) call) (queuesAfter before runner (s .queues) call) (c .0)
-      (subst (λ (x : Board). Settled z x (orderAfter before (s .order) call) (queuesAfter before runner (s .queues) call)) (sym (c .1)) after) small
+      dispatch-comes z l (stores .after) (stores .value) a (orderAfter before (s .order) move) (queuesAfter before (s .queues) move) (c .0)
+      (subst (λ (x : Board). Settled z x (orderAfter before (s .order) move) (queuesAfter before (s .queues) move)) (sym (c .1)) after) small
       ∙ ap₂ (λ (v : ℕ) (x : Board). dispatch z l (undispatched v x)) (body-value z l (h .long) a (s .order) (s .queues) t call g) (c .1)
 
   by-verdict : (v : Verdict) → lowest (ownRow z before runner call) ≡ v
