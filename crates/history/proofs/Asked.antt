@@ -14,9 +14,9 @@ use Rattle.links.specs.Queue.{firstOf, consIf, which, firstWith}
 use Rattle.links.proofs.Chains.{chain-first}
 use Rattle.board.specs.declared.numbers.Size.{Size}
 use Rattle.board.specs.declared.places.Place.{Place}
-use Rattle.board.specs.declared.places.Place.the-variants.{Free, HeldBy, QueuedAt, Nowhere}
+use Rattle.board.specs.declared.places.Place.the-variants.{Free, QueuedAt}
 use Rattle.board.specs.Numbers.{taskNo}
-use Rattle.board.specs.Places.{isFree, isHeldBy, isQueuedAt}
+use Rattle.board.specs.Places.{isFree, isHeldBy}
 use Rattle.board.specs.Board.{Board, task, place}
 use Rattle.paper.specs.Rules.{present, nextMessage, order, queue, ready, running}
 use Rattle.paper.specs.Effects.{lowestFree, find}
@@ -35,7 +35,8 @@ use Rattle.history.proofs.Entries.{times-keep, in-keep}
 use Rattle.history.proofs.Names.{names-foremost, names-leads, in-names}
 use Rattle.history.proofs.Listed.{isAt}
 use Rattle.history.proofs.Named.{Named}
-use Rattle.history.proofs.Machines.{whoseOf, plainOf}
+use Rattle.history.proofs.Places.{whoseOf, somewhere, free-alike, held-alike}
+use Rattle.history.proofs.Machines.{plainOf}
 
 -- ---- the lowest number that passes
 -- counted from m on it is the first of those that pass
@@ -51,41 +52,13 @@ which-lowest none f g m (x ∷ r) h =
     step true e = refl
     step false e = e
 
--- ---- a place and whose it is
--- free
-free-alike : (x : Place) → IsWhere x (whoseOf x) → plain.isFree (whoseOf x) ≡ isFree x
-free-alike Free h = refl
-free-alike (HeldBy k) h = refl
-free-alike (QueuedAt k) h = refl
-free-alike (Nowhere p) h = absurd h
-
--- held by c; a message that is nowhere is held by none
-pub held-alike : (c : ℕ) (x : Place) → plain.isHeld c (whoseOf x) ≡ isHeldBy c x
-held-alike c Free = refl
-held-alike c (HeldBy k) = refl
-held-alike c (QueuedAt k) = refl
-held-alike c (Nowhere p) = refl
-
--- queued at r
-pub queued-alike : (r : ℕ) (x : Place) → plain.isQueued r (whoseOf x) ≡ isQueuedAt r x
-queued-alike r Free = refl
-queued-alike r (HeldBy k) = refl
-queued-alike r (QueuedAt k) = refl
-queued-alike r (Nowhere p) = refl
-
 -- ---- places of a board that is settled
 module _ (z : Size) (b : Board) (q : List ℕ) (f : ℕ → List ℕ) (h : kept.Settled z b q f) where
   -- no message is nowhere
   pub is-where : (m : ℕ) → IsWhere (place b m) (whoseOf (place b m))
-  is-where m = step (place b m) refl
-    where
-      step : (x : Place) → place b m ≡ x → IsWhere x (whoseOf x)
-      step Free e = refl
-      step (HeldBy k) e = refl
-      step (QueuedAt k) e = refl
-      step (Nowhere y) e =
-          let n = placed-numbered b m (λ d. true≢false (sym (ap isFree (sym e ∙ d)))) in
-          subst (PlaceGood z b m) e (h .places m (rw (h .fits .places) at n))
+  is-where m = somewhere (place b m) (λ y e.
+      let n = placed-numbered b m (λ d. true≢false (sym (ap isFree (sym e ∙ d)))) in
+      subst (PlaceGood z b m) e (h .places m (rw (h .fits .places) at n)))
 
   lowest-place : (g : Whose → Bool) (t : Place → Bool) → ((m : ℕ) → g (whoseOf (place b m)) ≡ t (place b m))
       → lowestFrom (λ m. g (whoseOf (place b m))) 1 (z .messages) ≡ firstOf (which t 1 (b .places))

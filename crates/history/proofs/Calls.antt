@@ -35,9 +35,10 @@ use Rattle.kept.proofs.Taking.{first-left}
 use Rattle.history.specs.Ranking.{Entry}
 use Rattle.history.specs.Machine as plain
 use Rattle.history.specs.Machine.{Plain, Played}
+use Rattle.history.proofs.Places.{held-alike, queued-alike}
 use Rattle.history.proofs.Named.{Named}
 use Rattle.history.proofs.Machines.{plainOf}
-use Rattle.history.proofs.Asked.{held-alike, queued-alike, asked-find, asked-free, asked-holds, first-mptr, first-walked}
+use Rattle.history.proofs.Asked.{asked-find, asked-free, asked-holds, first-mptr, first-walked}
 use Rattle.history.proofs.Same.{Same, same-at, same-holds, post-same, wait-same, claim-same, release-same, prepare-same, install-same, cancel-same}
 use Rattle.history.proofs.Placed.{forward-same, send-same, waits-same}
 use Rattle.history.proofs.Taken.{take-same, cancel-message-same}

@@ -29,8 +29,9 @@ use Rattle.history.specs.Ranking.{Names}
 use Rattle.history.specs.Machine.{machine, start}
 use Rattle.history.specs.Claims.{sheetOf, blockOf}
 use Rattle.history.proofs.Rolls.{Roll}
+use Rattle.history.proofs.Places.{whoseOf}
 use Rattle.history.proofs.Named.{Named}
-use Rattle.history.proofs.Machines.{whoseOf, plainOf}
+use Rattle.history.proofs.Machines.{plainOf}
 use Rattle.history.proofs.Steps.{Agreeing}
 
 -- ---- lists of zeros

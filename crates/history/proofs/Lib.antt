@@ -5,6 +5,7 @@ pub mod Names
 pub mod Rolls
 pub mod Listed
 pub mod Named
+pub mod Places
 pub mod Machines
 pub mod Asked
 pub mod Same

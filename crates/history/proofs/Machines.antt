@@ -28,16 +28,10 @@ use Rattle.history.specs.Ranking.{Entry}
 use Rattle.history.specs.Machine as plain
 use Rattle.history.specs.Machine.{Sheet, Block, Whose, Free, Held, Queued, Plain, noSheet, machine, upd, withSheet, withBlock, withWhose}
 use Rattle.history.specs.Claims.{sheetOf, blockOf}
+use Rattle.history.proofs.Places.{whoseOf}
 use Rattle.history.proofs.Named.{laid}
 
 -- ---- the machine of a board
--- whose a message is, by its place; on a board that is settled none is nowhere
-abbrev pub whoseOf : Place → Whose
-whoseOf places.Free = Free
-whoseOf (places.HeldBy k) = Held (k .0)
-whoseOf (places.QueuedAt k) = Queued (k .0)
-whoseOf (places.Nowhere p) = Free
-
 -- with the entries l and s, at the time n
 abbrev pub plainOf : Board → List Entry → List Entry → ℕ → Plain
 plainOf b l s n = machine (λ k. sheetOf (task b k)) (λ m. blockOf (message b m)) (λ m. whoseOf (place b m)) l s n
