@@ -25,8 +25,7 @@ use Rattle.linked.specs.Linked.{Numbered}
 use Rattle.linked.proofs.Tests.{says-isQueuedAt}
 use Rattle.linked.proofs.Running.{runner-says}
 use Rattle.kept.specs.Settled.{Settled}
-use Rattle.kept.specs.Touched as kept
-use Rattle.kept.specs.Touched.{Touched, touched, changed, orderAfter, queuesAfter}
+use Rattle.kept.specs.Touched.{touched, changed, orderAfter, queuesAfter}
 use Rattle.kept.specs.Claims.{Sizes}
 use Rattle.kept.proofs.Reading.{go-passed, runner-passed, held-row, task-passed}
 use Rattle.kept.proofs.Waiting.{task-numbered}
@@ -49,6 +48,13 @@ pub record Alike (z : Size) (tests : List Test) (d : Undispatched) (q : List ℕ
   pub value : lowest tests ≡ Go → d .value ≡ e .value
   pub same : lowest tests ≡ Go → Same z (d .board) q f (e .plain)
 
+-- so it is with a call on a board that lists q and f before it
+abbrev pub CallAlike : Size → Board → List ℕ → (ℕ → List ℕ) → Call → Played → Type 0
+CallAlike z b q f call e =
+    let c = running z b in
+    let move = touched b c call .move in
+    Alike z (ownRow z b c call) (body z b c call) (orderAfter b q move) (queuesAfter b f move) e
+
 -- ---- one test before others
 -- what follows it is asked where it does not apply
 lowest-then : (t : Test) (l k : List Test) → (t .applies ≡ false → lowest l ≡ lowest k) → lowest (t ∷ l) ≡ lowest (t ∷ k)
@@ -67,10 +73,10 @@ waits-after z b q f p a h c d t =
     (λ l s n w. waits-same z b q f a h l s n w c d)
 
 -- after a call whose row passes 3
-and-wait : (z : Size) (b : Board) (q : List ℕ) (f : ℕ → List ℕ) (c : ℕ) (tests : List Test) (e : Played) → Sizes z
+and-waits : (z : Size) (b : Board) (q : List ℕ) (f : ℕ → List ℕ) (c : ℕ) (tests : List Test) (e : Played) → Sizes z
     → (lowest tests ≡ Go → Settled z b q f × Numbered (z .tasks) c) → Alike z tests (undispatched 0 b) q f e
-    → Alike z tests (undispatched 0 (waits c b)) q f (plain.andWait c e)
-and-wait z b q f c tests e a h t = record {
+    → Alike z tests (undispatched 0 (waits c b)) q f (plain.andWaits c e)
+and-waits z b q f c tests e a h t = record {
   verdict = t .verdict;
   value = t .value;
   same = λ g. waits-after z b q f (e .plain) a (h g .0) c (h g .1) (t .same g);
@@ -112,31 +118,28 @@ module _ (z : Size) (b : Board) (q : List ℕ) (f : ℕ → List ℕ) (a : Sizes
       (outside-within (z .tasks) k (d .0), d .1)
 
   -- ---- messages placed
-  sends : (m r : ℕ) → Alike z (ownRow z b c (Send m r)) (body z b c (Send m r)) q (queuesAfter b f (kept.sends b c m r .move)) (plain.sends z p c m r)
+  sends : (m r : ℕ) → CallAlike z b q f (Send m r) (plain.sends z p c m r)
   sends m r = record {
     verdict = rw (held-alike c (place b m));
     value = λ g. refl;
     same = λ g. let t = sender-row m r [] g in send-same z b q f a h l s n w c m r (t .0) (t .1);
   }
 
-  passes-on : (m r : ℕ) → Alike z (ownRow z b c (Forward m r)) (body z b c (Forward m r)) q (queuesAfter b f (kept.passesOn b m r .move))
-      (plain.passesOn z p c m r)
+  passes-on : (m r : ℕ) → CallAlike z b q f (Forward m r) (plain.passesOn z p c m r)
   passes-on m r = record {
     verdict = rw (held-alike c (place b m));
     value = λ g. refl;
     same = λ g. let t = sender-row m r (no7 b m ∷ []) g in forward-same z b q f a h l s n w c m r (t .0) (t .1);
   }
 
-  sends-waits : (m r : ℕ) → Alike z (ownRow z b c (SendAndWait m r)) (body z b c (SendAndWait m r)) q (queuesAfter b f (kept.sends b c m r .move))
-      (plain.andWait c (plain.sends z p c m r))
+  sends-waits : (m r : ℕ) → CallAlike z b q f (SendAndWait m r) (plain.andWaits c (plain.sends z p c m r))
   sends-waits m r =
-      and-wait z _ q _ c (ownRow z b c (Send m r)) (plain.sends z p c m r) a
+      and-waits z _ q _ c (ownRow z b c (Send m r)) (plain.sends z p c m r) a
       (λ g. (send-settled z b q f a h m r g .0, sender-row m r [] g .2)) (sends m r)
 
-  passes-on-waits : (m r : ℕ) → Alike z (ownRow z b c (ForwardAndWait m r)) (body z b c (ForwardAndWait m r)) q
-      (queuesAfter b f (kept.passesOn b m r .move)) (plain.andWait c (plain.passesOn z p c m r))
+  passes-on-waits : (m r : ℕ) → CallAlike z b q f (ForwardAndWait m r) (plain.andWaits c (plain.passesOn z p c m r))
   passes-on-waits m r =
-      and-wait z _ q _ c (ownRow z b c (Forward m r)) (plain.passesOn z p c m r) a
+      and-waits z _ q _ c (ownRow z b c (Forward m r)) (plain.passesOn z p c m r) a
       (λ g. (forward-settled z b q f a h m r g .0, sender-row m r (no7 b m ∷ []) g .2)) (passes-on m r)
 
   -- ---- a message cancelled
@@ -158,9 +161,7 @@ module _ (z : Size) (b : Board) (q : List ℕ) (f : ℕ → List ℕ) (a : Sizes
       rw (first-mptr z b q f a h l s n w k (task-passed z b k u .0), asked-holds z b q f h l s n k)))
 
   -- ---- each call
-  pub calls-alike : (call : Call) → let c = running z b in
-      Alike z (ownRow z b c call) (body z b c call) (orderAfter b q (touched b c call .move)) (queuesAfter b f (touched b c call .move))
-      (plain.play z (plainOf b l s n) c call)
+  pub calls-alike : (call : Call) → CallAlike z b q f call (plain.play z (plainOf b l s n) (running z b) call)
   calls-alike (Install k t prio sptr name) = record {
     verdict = refl;
     value = λ g. refl;

@@ -9,7 +9,6 @@ use lib.Dec.{eqb}
 use lib.ListN.{length}
 use Rattle.links.specs.Chain.{In}
 use Rattle.board.specs.declared.numbers.Size.{Size}
-use Rattle.board.specs.declared.records.Message.{Message}
 use Rattle.board.specs.declared.places.Place.the-variants.{HeldBy}
 use Rattle.board.specs.Numbers.{taskNo}
 use Rattle.board.specs.Status.{WAIT, MHBS}

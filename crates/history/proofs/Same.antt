@@ -16,7 +16,6 @@ use Rattle.board.specs.Status.{IWAT, INTQ, has}
 use Rattle.board.specs.Records.{noMessage}
 use Rattle.board.specs.Board.{Board, task, place, withMessage}
 use Rattle.board.specs.Places.{isQueued}
-use Rattle.paper.specs.declared.call.Call.the-variants.{Install, CancelTask}
 use Rattle.paper.specs.Rules.{present}
 use Rattle.paper.specs.Effects.{install, cancelTask, post, waitInterrupt, lowestFree, claim, release, prepare}
 use Rattle.linked.specs.Linked.{Numbered}

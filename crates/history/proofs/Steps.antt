@@ -13,7 +13,6 @@ use Rattle.paper.proofs.Rows.{row-own}
 use Rattle.paper.specs.Refusals.{ownRow, Verdict, Go, Stop, lowest}
 use Rattle.paper.specs.Outcomes as paper
 use Rattle.kept.specs.Settled.{Settled, Fitting}
-use Rattle.kept.specs.Touched.{Touched, touched, orderAfter, queuesAfter}
 use Rattle.kept.specs.Claims.{Sizes, Bytes}
 use Rattle.kept.proofs.Fitting.{board-bytes}
 use Rattle.kept.proofs.Theorems.{passing-sound, sound-runner, passing-stays-passing}
@@ -25,7 +24,7 @@ use Rattle.history.proofs.Named.{Named}
 use Rattle.history.proofs.Machines.{plainOf}
 use Rattle.history.proofs.Asked.{asked-running}
 use Rattle.history.proofs.Same.{Same, same-at, same-holds}
-use Rattle.history.proofs.Calls.{Alike, calls-alike}
+use Rattle.history.proofs.Calls.{CallAlike, calls-alike}
 use Rattle.history.proofs.Dispatch.{Dispatched, dispatch-alike}
 
 -- ---- the bytes of a board and the machine
@@ -75,7 +74,7 @@ module _ (z : Size) (a : Sizes z) (bytes : List ℕ) (call : Call) (fits : Fitti
   abbrev e : Played
   e = plain.play z p c call
 
-  alike : Alike z (ownRow z b c call) d (orderAfter b q (touched b c call .move)) (queuesAfter b f (touched b c call .move)) e
+  alike : CallAlike z b q f call e
   alike = calls-alike z b q f a h l s n w call
 
   -- the body, and then dispatch

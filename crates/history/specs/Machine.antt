@@ -239,8 +239,8 @@ sends z p c m r = played (no3 c ∷ no4 z m ∷ no5 p c m ∷ no6 z p r ∷ []) 
 abbrev pub passesOn : Size → Plain → ℕ → ℕ → ℕ → Played
 passesOn z p c m r = played (no3 c ∷ no4 z m ∷ no5 p c m ∷ no6 z p r ∷ no7 p m ∷ []) 0 (place p m r)
 
-abbrev pub andWait : ℕ → Played → Played
-andWait c d = played (d .refusals) (d .value) (waits c (d .plain))
+abbrev pub andWaits : ℕ → Played → Played
+andWaits c d = played (d .refusals) (d .value) (waits c (d .plain))
 
 abbrev pub play : Size → Plain → ℕ → Call → Played
 play z p c (Install k s prio sptr name) = played (no7Install prio ∷ no8 z p k ∷ no9 s ∷ []) 0 (install p k s prio sptr name)
@@ -251,13 +251,13 @@ play z p c Claim = played (no3 c ∷ no11 z p ∷ []) (lowestFree z p) (claim z 
 play z p c (Prepare m s prio sptr) = played (no3 c ∷ no4 z m ∷ no5 p c m ∷ no14 z sptr ∷ []) 0 (prepare p m s prio sptr)
 play z p c (Release m) = played (no3 c ∷ no4 z m ∷ no5 p c m ∷ []) 0 (release p m)
 play z p c (Send m r) = sends z p c m r
-play z p c (SendAndWait m r) = andWait c (sends z p c m r)
+play z p c (SendAndWait m r) = andWaits c (sends z p c m r)
 play z p c (Resend m) = passesOn z p c m (p .blocks m .rptr)
-play z p c (ResendAndWait m) = andWait c (passesOn z p c m (p .blocks m .rptr))
+play z p c (ResendAndWait m) = andWaits c (passesOn z p c m (p .blocks m .rptr))
 play z p c (Forward m r) = passesOn z p c m r
-play z p c (ForwardAndWait m r) = andWait c (passesOn z p c m r)
+play z p c (ForwardAndWait m r) = andWaits c (passesOn z p c m r)
 play z p c (Return m) = passesOn z p c m (p .blocks m .sptr)
-play z p c (ReturnAndWait m) = andWait c (passesOn z p c m (p .blocks m .sptr))
+play z p c (ReturnAndWait m) = andWaits c (passesOn z p c m (p .blocks m .sptr))
 play z p c Receive = played (no3 c ∷ []) (first p c) (take p c (first p c))
 play z p c ReceiveAndWait = played (no3 c ∷ []) 0 (waits c p)
 play z p c (CancelMessage m r) = played (no3 c ∷ no4 z m ∷ no6 z p r ∷ no12 p m r ∷ no13 p c m ∷ []) 0 (cancelMessage p c m r)
