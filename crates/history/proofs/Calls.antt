@@ -2,14 +2,14 @@
 -- A call more costs a row of calls-alike.
 -- Assumes nothing.
 use mathlib.Core.Path.{_≡_, refl, sym, subst}
+use mathlib.Core.Logic.{_≢_}
 use mathlib.Core.Bool.{Bool, true, false}
 use mathlib.Core.List.{List, [], _∷_}
 use Prim.Native.Nat.{ℕ}
-use borrow.Author.Tests.{eqb-false, not-false}
+use borrow.Author.Tests.{eqb-false}
 use Rattle.board.specs.declared.numbers.Size.{Size}
 use Rattle.board.specs.declared.places.Place.the-variants.{HeldBy}
 use Rattle.board.specs.Numbers.{outside, taskNo}
-use Rattle.board.specs.Places.{isQueuedAt}
 use Rattle.board.specs.Board.{Board, message, place}
 use Rattle.board.proofs.Pieces.{outside-within, neither}
 use Rattle.paper.specs.declared.call.Call.{Call}
@@ -19,18 +19,17 @@ use Rattle.paper.specs.declared.call.Call.the-variants.{Receive, ReceiveAndWait
 use Rattle.paper.specs.Rules.{present, running}
 use Rattle.paper.specs.Changes.{takeFirst}
 use Rattle.paper.specs.Effects.{lowestFree, waits}
-use Rattle.paper.specs.Refusals.{Test, no3, no4, no5, no6, no7, no7Install, no8, no9, no10, no11, no12, no13, no14, ownRow, Go, lowest}
+use Rattle.paper.specs.Refusals.{Test, no3, no4, no5, no6, no7, no7Install, no8, no9, no10, no11, no14, ownRow, Go, lowest}
 use Rattle.paper.specs.Outcomes.{Undispatched, undispatched, body}
 use Rattle.linked.specs.Linked.{Numbered}
-use Rattle.linked.proofs.Tests.{says-isQueuedAt}
 use Rattle.linked.proofs.Running.{runner-says}
 use Rattle.kept.specs.Settled.{Settled}
 use Rattle.kept.specs.Touched.{touched, changed, orderAfter, queuesAfter}
 use Rattle.kept.specs.Claims.{Sizes}
 use Rattle.kept.proofs.Reading.{go-passed, runner-passed, held-row, task-passed}
 use Rattle.kept.proofs.Waiting.{task-numbered}
-use Rattle.kept.proofs.Placing.{send-settled, forward-settled}
-use Rattle.kept.proofs.Taking.{first-left}
+use Rattle.kept.proofs.Placing.{sender-passed, send-settled, forward-settled}
+use Rattle.kept.proofs.Taking.{first-left, cancel-message-row}
 use Rattle.history.specs.Ranking.{Entry}
 use Rattle.history.specs.Machine as plain
 use Rattle.history.specs.Machine.{Plain, Played}
@@ -91,23 +90,20 @@ module _ (z : Size) (b : Board) (q : List ℕ) (f : ℕ → List ℕ) (a : Sizes
   p = plainOf b l s n
 
   -- ---- what a row says that refuses nothing
-  -- 3: the running task is one of the board's
-  runner-numbered : no3 c .applies ≡ false → Numbered (z .tasks) c
-  runner-numbered e = task-numbered z b q f h c (runner-says z b (runner-passed c e) .0)
+  -- the running task is one of the board's
+  runner-numbered : c ≢ 0 → Numbered (z .tasks) c
+  runner-numbered e = task-numbered z b q f h c (runner-says z b e .0)
 
   -- 3 alone
   runner-alone : lowest (no3 c ∷ []) ≡ Go → Numbered (z .tasks) c
-  runner-alone g = runner-numbered (go-passed (no3 c) [] g .0)
+  runner-alone g = runner-numbered (runner-passed c (go-passed (no3 c) [] g .0))
 
   -- 3 to 6: it holds the message, and the task meant is one of the board's
   sender-row : (m r : ℕ) (tests : List Test) → lowest (no3 c ∷ no4 z m ∷ no5 b c m ∷ no6 z b r ∷ tests) ≡ Go
       → (place b m ≡ HeldBy (taskNo c)) × Numbered (z .tasks) r × Numbered (z .tasks) c
   sender-row m r tests g =
-      let t = held-row z b c m (no6 z b r ∷ tests) g in (
-        t .1,
-        task-passed z b r (go-passed (no6 z b r) tests (t .2) .0) .0,
-        runner-numbered (go-passed (no3 c) (no4 z m ∷ no5 b c m ∷ no6 z b r ∷ tests) g .0),
-      )
+      let (runs, held, there, rest) = sender-passed z b q f a h m r tests g in
+      (held, task-numbered z b q f h r there, runner-numbered runs)
 
   -- 7, 8 and 9: the task to install is one of the board's, and absent
   installable : (k t prio : ℕ) → lowest (no7Install prio ∷ no8 z b k ∷ no9 t ∷ []) ≡ Go
@@ -141,16 +137,6 @@ module _ (z : Size) (b : Board) (q : List ℕ) (f : ℕ → List ℕ) (a : Sizes
   passes-on-waits m r =
       and-waits z _ q _ c (ownRow z b c (Forward m r)) (plain.passesOn z p c m r) a
       (λ g. (forward-settled z b q f a h m r g .0, sender-row m r (no7 b m ∷ []) g .2)) (passes-on m r)
-
-  -- ---- a message cancelled
-  cancellable : (m r : ℕ) → lowest (ownRow z b c (CancelMessage m r)) ≡ Go
-      → (isQueuedAt r (place b m) ≡ true) × Numbered (z .tasks) r
-  cancellable m r g =
-      let t = go-passed (no4 z m) (no6 z b r ∷ no12 b m r ∷ no13 b c m ∷ [])
-      (go-passed (no3 c) (no4 z m ∷ no6 z b r ∷ no12 b m r ∷ no13 b c m ∷ []) g .1) in
-      let u = go-passed (no6 z b r) (no12 b m r ∷ no13 b c m ∷ []) (t .1) in
-      let v = go-passed (no12 b m r) (no13 b c m ∷ []) (u .1) in
-      (not-false (isQueuedAt r (place b m)) (v .0), task-passed z b r (u .0) .0)
 
   -- ---- a task cancelled
   -- where 6 has passed, so does 10 if it does on the machine
@@ -221,8 +207,7 @@ module _ (z : Size) (b : Board) (q : List ℕ) (f : ℕ → List ℕ) (a : Sizes
   calls-alike (CancelMessage m r) = record {
     verdict = rw (queued-alike r (place b m));
     value = λ g. refl;
-    same = λ g. let t = cancellable m r g in
-        cancel-message-same z b q f a h l s n w c m r (says-isQueuedAt r (place b m) .0 (t .0)) (t .1);
+    same = λ g. let t = cancel-message-row z b c m r g in cancel-message-same z b q f a h l s n w c m r (t .2) (t .1);
   }
   calls-alike WaitForInterrupt = record {
     verdict = refl;

@@ -8,7 +8,7 @@ use Prim.Native.Nat.{ℕ}
 use native.Mathlib.Omega.{arith}
 use native.Mathlib.Decide.{ℕ-discrete}
 use lib.Dec.{eqb}
-use borrow.Author.Tests.{eq-eqb, eqb-true, not-false}
+use borrow.Author.Tests.{eqb-true, not-false}
 use Rattle.links.specs.Queue.{firstOf, restOf, without}
 use Rattle.links.specs.Chain.{In, Once, Chain}
 use Rattle.links.proofs.Members.{out-not-in}
@@ -19,7 +19,7 @@ use Rattle.board.specs.declared.status.Status.{Status}
 use Rattle.board.specs.declared.records.Task.{Task}
 use Rattle.board.specs.declared.records.Message.{Message}
 use Rattle.board.specs.declared.places.Place.{Place}
-use Rattle.board.specs.declared.places.Place.the-variants.{Free, HeldBy, QueuedAt, Nowhere}
+use Rattle.board.specs.declared.places.Place.the-variants.{HeldBy, QueuedAt}
 use Rattle.board.specs.Numbers.{taskNo}
 use Rattle.board.specs.Status.{MHBS, has, number}
 use Rattle.board.specs.Records.{noTask, taskWithMptr, withLink}
@@ -185,6 +185,16 @@ module _ (z : Size) (b : Board) (order : List ℕ) (queues : ℕ → List ℕ) (
 pub queued-passed : (r : ℕ) (p : Place) → not (isQueuedAt r p) ≡ false → p ≡ QueuedAt (taskNo r)
 queued-passed r p e = says-isQueuedAt r p .0 (not-false (isQueuedAt r p) e)
 
+-- 3, 4, 6, 12 and 13, the row of cancel message: the task meant is one of the board's, and the message is queued there
+pub cancel-message-row : (z : Size) (b : Board) (c m r : ℕ) → lowest (ownRow z b c (CancelMessage m r)) ≡ Go
+    → (c ≢ 0) × Numbered (z .tasks) r × (place b m ≡ QueuedAt (taskNo r))
+cancel-message-row z b c m r g =
+    let s = go-passed (no3 c) (no4 z m ∷ no6 z b r ∷ no12 b m r ∷ no13 b c m ∷ []) g in
+    let t = go-passed (no4 z m) (no6 z b r ∷ no12 b m r ∷ no13 b c m ∷ []) (s .1) in
+    let u = go-passed (no6 z b r) (no12 b m r ∷ no13 b c m ∷ []) (t .1) in
+    let v = go-passed (no12 b m r) (no13 b c m ∷ []) (u .1) in
+    (runner-passed c (s .0), task-passed z b r (u .0) .0, queued-passed r (place b m) (v .0))
+
 module _ (z : Size) (b : Board) (order : List ℕ) (queues : ℕ → List ℕ) (sizes : Sizes z) (settled : Settled z b order queues) where
   -- receive: the first of its queue, or none
   pub receive-settled : let c = running z b in has (task b c .stat) MHBS ≡ false → lowest (ownRow z b c Receive) ≡ Go
@@ -201,12 +211,8 @@ module _ (z : Size) (b : Board) (order : List ℕ) (queues : ℕ → List ℕ) (
       → Settled z (cancelMessage z b c m r) order (queuesAfter b queues (OutOfQueue m r))
   cancel-message-settled m r g =
       let c : ℕ = running z b in
-      let s = go-passed (no3 c) (no4 z m ∷ no6 z b r ∷ no12 b m r ∷ no13 b c m ∷ []) g in
-      let t = go-passed (no4 z m) (no6 z b r ∷ no12 b m r ∷ no13 b c m ∷ []) (s .1) in
-      let u = go-passed (no6 z b r) (no12 b m r ∷ no13 b c m ∷ []) (t .1) in
-      let n = task-passed z b r (u .0) .0 in
-      let e = queued-passed r (place b m) (go-passed (no12 b m r) (no13 b c m ∷ []) (u .1) .0) in
-      let d = out-settled z b order queues sizes settled m r c e (runner-says z b (runner-passed c (s .0)) .0) in
+      let (runs, n, e) = cancel-message-row z b c m r g in
+      let d = out-settled z b order queues sizes settled m r c e (runner-says z b runs .0) in
       subst (λ (q : List ℕ).
       Settled z (emptied (hold (withQueue b r (without m q)) c m) r) order (changed queues r (without m (queues r))))
       (sym (queue-walked z b order queues settled r n))
