@@ -223,7 +223,7 @@ no12 p m r = test NotQueued (not (isQueued r (p .whose m)))
 abbrev pub no13 : Plain → ℕ → ℕ → Test
 no13 p c m = test NotItsSender (not (eqb (p .blocks m .sptr) c))
 
--- ---- the nineteen calls, a row each: the refusals below 15, ascending; the value, and the machine before dispatch, where none applies
+-- ---- the nineteen calls, a row each: its refusals from 3 to 14, ascending, and, where none applies, its value and the machine before dispatch
 pub record Played : Type 0 where
   pub refusals : List Test
   pub value : ℕ
