@@ -9,11 +9,12 @@ use Rattle.paper.specs.declared.call.Call.{Call}
 use Rattle.paper.specs.Rules.{order}
 use Rattle.paper.specs.Outcomes.{effect}
 use Rattle.paper.specs.History as bytes
+use Rattle.kept.specs.Settled.{AllFit}
 use Rattle.kept.specs.Claims.{Sizes}
 use Rattle.kept.proofs.Reading.{order-walked, queue-walked}
 use Rattle.history.specs.Ranking.{keep, Names}
 use Rattle.history.specs.Machine.{Plain, start, step}
-use Rattle.history.specs.Claims.{OneRanking, Agrees, past, AllFit, LinksAgree}
+use Rattle.history.specs.Claims.{OneRanking, Agrees, past, LinksAgree}
 use Rattle.history.proofs.Ranks as ranks
 use Rattle.history.proofs.Listed.{isAt}
 use Rattle.history.proofs.Asked.{asked-running, is-where}

@@ -26,7 +26,7 @@ use Rattle.paper.specs.Rules as rules
 use Rattle.paper.specs.Outcomes.{blank, Ends, effect, fresh}
 use Rattle.paper.specs.History as bytes
 use Rattle.linked.specs.Linked.{Numbered}
-use Rattle.kept.specs.Settled.{Fitting}
+use Rattle.kept.specs.Settled.{AllFit}
 use Rattle.kept.specs.Claims.{Sizes}
 use Rattle.history.specs.Ranking.{Entry, keep, Ranking, DifferentTimes, Names}
 use Rattle.history.specs.Machine.{Sheet, Block, Whose, Free, Held, Queued, Plain, start, step, running}
@@ -73,10 +73,6 @@ past z p (call ∷ calls) =
     let o = step z p call in
     let rest = past z (o .plain) calls in
     record { answers = o .answer ∷ rest .answers; plain = rest .plain }
-
-abbrev pub AllFit : List Call → Type 0
-AllFit [] = Unit {0}
-AllFit (call ∷ calls) = Fitting call × AllFit calls
 
 abbrev pub LinksAgree : Type 0
 LinksAgree =

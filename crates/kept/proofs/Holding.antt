@@ -180,4 +180,4 @@ module _ (z : Size) (b : Board) (order : List ℕ) (queues : ℕ → List ℕ) (
   prepare-settled c m t p sptr f g =
       let r = held-row z b c m (no14 z sptr ∷ []) g in
       let n = go-passed (no14 z sptr) [] (r .2) in
-      settled-prepare c m t p sptr (r .1) (f .1) (f .2) (f .3) (ltb-false (z .tasks) sptr (n .0))
+      settled-prepare c m t p sptr (r .1) (f .1 .0) (f .1 .1 .0) (f .0 .1 .0) (ltb-false (z .tasks) sptr (n .0))

@@ -243,5 +243,5 @@ module _ (z : Size) (b : Board) (q : List ℕ) (queues : ℕ → List ℕ) (a : 
       let t = status-says stat (go-passed (no9 stat) [] (room .1) .0) in
       let good : goodHead (stored stat) p ≡ true = and-true _ _ (and-true _ _ (t .0) (ap not (t .3))) (not-false _ (prio .0)) in
       settled-install (outside-within (z .tasks) k (n .0)) (n .1)
-      (record { stat = f .1; prio = f .2; link = lit< tt; mptr = lit< tt; sptr = f .3; name = f .4 })
+      (record { stat = f .1 .0; prio = f .1 .1 .0; link = lit< tt; mptr = lit< tt; sptr = f .0 .1 .0; name = f .0 .1 .1 .0 })
       (says-goodHead installed .0 good) (t .1) (t .2) (t .4)

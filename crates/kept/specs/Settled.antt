@@ -2,7 +2,7 @@
 -- calls must believe this file.
 --   Fits z b                  the records are as many as the size says and every field fits its bytes
 --   Settled z b order queues   b fits and keeps R1 to R6; its links list the tasks as order and the messages of task k as queues k
---   Fitting call              the call's arguments are words and bytes, as the code's types have it
+--   Fitting call              the call's arguments are words and bytes, as the code's types have it; AllFit calls: so of each
 -- Assumes nothing.
 use mathlib.Core.Path.{_≡_}
 use mathlib.Core.Logic.{_⊎_}
@@ -19,7 +19,7 @@ use Rattle.board.specs.Records.{noTask}
 use Rattle.board.specs.Places.{placeOf, placeByte}
 use Rattle.board.specs.Board.{Board, task, message, place}
 use Rattle.paper.specs.declared.call.Call.{Call}
-use Rattle.paper.specs.declared.call.Call.the-variants.{Install, PostInterrupt, Find, CancelTask, Claim, Prepare, Release, Send, SendAndWait, Resend, ResendAndWait, Forward, ForwardAndWait, Return, ReturnAndWait, Receive, ReceiveAndWait, CancelMessage, WaitForInterrupt}
+use Rattle.paper.specs.Arguments.{Arguments, argumentsOf}
 use Rattle.linked.specs.Linked.{Numbered, Linked}
 use Rattle.linked.specs.Sound.{Proper, PlaceGood, Flags}
 
@@ -65,22 +65,7 @@ pub record Settled (z : Size) (b : Board) (order : List ℕ) (queues : ℕ → L
   pub flags : (k : ℕ) → Numbered (z .tasks) k → Flags (task b k .stat) (task b k .mptr ≡ 0)  -- R6
 
 abbrev pub Fitting : Call → Type 0
-Fitting (Install k s p sptr name) = Word k × Byte s × Byte p × Word sptr × Word name
-Fitting (PostInterrupt k) = Word k
-Fitting (Find name) = Word name
-Fitting (CancelTask k) = Word k
-Fitting Claim = Unit {0}
-Fitting (Prepare m s p sptr) = Word m × Byte s × Byte p × Word sptr
-Fitting (Release m) = Word m
-Fitting (Send m r) = Word m × Word r
-Fitting (SendAndWait m r) = Word m × Word r
-Fitting (Resend m) = Word m
-Fitting (ResendAndWait m) = Word m
-Fitting (Forward m r) = Word m × Word r
-Fitting (ForwardAndWait m r) = Word m × Word r
-Fitting (Return m) = Word m
-Fitting (ReturnAndWait m) = Word m
-Fitting Receive = Unit {0}
-Fitting ReceiveAndWait = Unit {0}
-Fitting (CancelMessage m r) = Word m × Word r
-Fitting WaitForInterrupt = Unit {0}
+Fitting call = All Word (argumentsOf call .words) × All Byte (argumentsOf call .bytes)
+
+abbrev pub AllFit : List Call → Type 0
+AllFit calls = All Fitting calls

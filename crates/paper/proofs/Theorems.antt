@@ -25,7 +25,7 @@ use Rattle.paper.specs.Answers.{numberOf, Handed, handed}
 use Rattle.paper.specs.Rules.{emptyQueue, running}
 use Rattle.paper.specs.Refusals.{Test, no1, no2, row, Verdict, Go, Stop, lowest}
 use Rattle.paper.specs.Outcomes.{Outcome, Ends, Undispatched, accepted, refused, judge, deliver, dispatchTo, dispatch, body, blank}
-use Rattle.paper.specs.Claims.{NoSecondOutcome, Unchanged, RefusalChangesNothing, Given, LowestIsGiven, HandedTells, FreshInstallAccepted, AnswersDiffer, InstallWrites}
+use Rattle.paper.specs.Claims.{NoSecondOutcome, Unchanged, RefusalChangesNothing, Given, LowestIsGiven, HandedTells, ArgumentsTell, FreshInstallAccepted, AnswersDiffer, InstallWrites}
 
 pub no-second-outcome : NoSecondOutcome
 no-second-outcome o a e l m h i = (h .answers ∙ sym (i .answers), h .leaves ∙ sym (i .leaves))
@@ -176,6 +176,10 @@ told-handed (Refused NothingToDeliver) = refl
 
 pub handed-tells : HandedTells
 handed-tells a e h = sym (told-handed a) ∙ ap told h ∙ told-handed e
+
+-- ---- a call's kind, words and bytes tell the call
+pub arguments-tell : ArgumentsTell
+arguments-tell a b c s p = refl
 
 -- ---- not a definition that refuses all, answers always the same, or writes nothing
 pub fresh-install-accepted : FreshInstallAccepted

@@ -5,4 +5,5 @@ pub mod Effects
 pub mod Refusals
 pub mod Outcomes
 pub mod History
+pub mod Arguments
 pub mod Claims

@@ -10,22 +10,22 @@ use Rattle.paper.specs.declared.call.Call.the-variants.{Install, PostInterrupt,
 use Rattle.kept.specs.Settled.{Fitting}
 
 pub fitted : (call : Call) → Is (row the-type) call (val the-type the-laws call ∷ []) → Fitting call
-fitted (Install k s p sptr name) g = let f = g .1 .1 .1 .1 in (f .0 .1, f .1 .0 .1, f .1 .1 .0 .1, f .1 .1 .1 .0 .1, f .1 .1 .1 .1 .0 .1)
-fitted (PostInterrupt k) g = g .1 .1 .1 .1 .0 .1
-fitted (Find name) g = g .1 .1 .1 .1 .0 .1
-fitted (CancelTask k) g = g .1 .1 .1 .1 .0 .1
-fitted Claim g = tt
-fitted (Prepare m s p sptr) g = let f = g .1 .1 .1 .1 in (f .0 .1, f .1 .0 .1, f .1 .1 .0 .1, f .1 .1 .1 .0 .1)
-fitted (Release m) g = g .1 .1 .1 .1 .0 .1
-fitted (Send m r) g = let f = g .1 .1 .1 .1 in (f .0 .1, f .1 .0 .1)
-fitted (SendAndWait m r) g = let f = g .1 .1 .1 .1 in (f .0 .1, f .1 .0 .1)
-fitted (Resend m) g = g .1 .1 .1 .1 .0 .1
-fitted (ResendAndWait m) g = g .1 .1 .1 .1 .0 .1
-fitted (Forward m r) g = let f = g .1 .1 .1 .1 in (f .0 .1, f .1 .0 .1)
-fitted (ForwardAndWait m r) g = let f = g .1 .1 .1 .1 in (f .0 .1, f .1 .0 .1)
-fitted (Return m) g = g .1 .1 .1 .1 .0 .1
-fitted (ReturnAndWait m) g = g .1 .1 .1 .1 .0 .1
-fitted Receive g = tt
-fitted ReceiveAndWait g = tt
-fitted (CancelMessage m r) g = let f = g .1 .1 .1 .1 in (f .0 .1, f .1 .0 .1)
-fitted WaitForInterrupt g = tt
+fitted (Install k s p sptr name) g = let f = g .1 .1 .1 .1 in ((f .0 .1, (f .1 .1 .1 .0 .1, (f .1 .1 .1 .1 .0 .1, tt))), (f .1 .0 .1, (f .1 .1 .0 .1, tt)))
+fitted (PostInterrupt k) g = ((g .1 .1 .1 .1 .0 .1, tt), tt)
+fitted (Find name) g = ((g .1 .1 .1 .1 .0 .1, tt), tt)
+fitted (CancelTask k) g = ((g .1 .1 .1 .1 .0 .1, tt), tt)
+fitted Claim g = (tt, tt)
+fitted (Prepare m s p sptr) g = let f = g .1 .1 .1 .1 in ((f .0 .1, (f .1 .1 .1 .0 .1, tt)), (f .1 .0 .1, (f .1 .1 .0 .1, tt)))
+fitted (Release m) g = ((g .1 .1 .1 .1 .0 .1, tt), tt)
+fitted (Send m r) g = let f = g .1 .1 .1 .1 in ((f .0 .1, (f .1 .0 .1, tt)), tt)
+fitted (SendAndWait m r) g = let f = g .1 .1 .1 .1 in ((f .0 .1, (f .1 .0 .1, tt)), tt)
+fitted (Resend m) g = ((g .1 .1 .1 .1 .0 .1, tt), tt)
+fitted (ResendAndWait m) g = ((g .1 .1 .1 .1 .0 .1, tt), tt)
+fitted (Forward m r) g = let f = g .1 .1 .1 .1 in ((f .0 .1, (f .1 .0 .1, tt)), tt)
+fitted (ForwardAndWait m r) g = let f = g .1 .1 .1 .1 in ((f .0 .1, (f .1 .0 .1, tt)), tt)
+fitted (Return m) g = ((g .1 .1 .1 .1 .0 .1, tt), tt)
+fitted (ReturnAndWait m) g = ((g .1 .1 .1 .1 .0 .1, tt), tt)
+fitted Receive g = (tt, tt)
+fitted ReceiveAndWait g = (tt, tt)
+fitted (CancelMessage m r) g = let f = g .1 .1 .1 .1 in ((f .0 .1, (f .1 .0 .1, tt)), tt)
+fitted WaitForInterrupt g = (tt, tt)
