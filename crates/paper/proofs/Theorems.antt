@@ -3,7 +3,7 @@ use mathlib.Core.Path.{_≡_, refl, sym, ap, _∙_, subst}
 use mathlib.Core.Logic.{inl, inr}
 use mathlib.Core.Bool.{Bool, true, false, cond, _&&_, true≢false}
 use mathlib.Core.List.{List, [], _∷_}
-use Prim.Native.Nat.{ℕ, _-_, _≤_, _<_}
+use Prim.Native.Nat.{ℕ, zero, suc, _-_, _≤_, _<_}
 use native.Mathlib.Omega.{arith}
 use lib.ListN.{getD}
 use lib.Dec.{eqb, ltb}
@@ -16,7 +16,8 @@ use Rattle.board.specs.declared.records.Task.{Task}
 use Rattle.board.specs.Status.{MHBS, has}
 use Rattle.board.specs.Board.{Board, boardOf, bytesOf, task}
 use Rattle.paper.specs.declared.call.Call.{Call}
-use Rattle.paper.specs.declared.call.Call.the-variants.{Install, PostInterrupt, Find, CancelTask, Claim, Prepare, Release, Send, SendAndWait, Resend, ResendAndWait, Forward, ForwardAndWait, Return, ReturnAndWait, Receive, ReceiveAndWait, CancelMessage, WaitForInterrupt}
+use Rattle.paper.specs.declared.call.Call.the-variants.{Find}
+use Rattle.paper.specs.Arguments.{Arguments, callsOf, argumentsOf}
 use Rattle.paper.specs.declared.answer.Refusal.{Refusal}
 use Rattle.paper.specs.declared.answer.Refusal.the-variants.{WrongLength, RuleBroken, NobodyRuns, NoSuchMessage, NotHeld, NoSuchTask, BadPriority, NotInstallable, BadStatus, TaskBusy, NoneFree, NotQueued, NotItsSender, BadSender, NothingToDeliver}
 use Rattle.paper.specs.declared.answer.Answer.{Answer}
@@ -25,7 +26,7 @@ use Rattle.paper.specs.Answers.{numberOf, Handed, handed}
 use Rattle.paper.specs.Rules.{emptyQueue, running}
 use Rattle.paper.specs.Refusals.{Test, no1, no2, row, Verdict, Go, Stop, lowest}
 use Rattle.paper.specs.Outcomes.{Outcome, Ends, Undispatched, accepted, refused, judge, deliver, dispatchTo, dispatch, body, blank}
-use Rattle.paper.specs.Claims.{NoSecondOutcome, Unchanged, RefusalChangesNothing, Given, LowestIsGiven, HandedTells, ArgumentsTell, FreshInstallAccepted, AnswersDiffer, InstallWrites}
+use Rattle.paper.specs.Claims.{NoSecondOutcome, Unchanged, RefusalChangesNothing, Given, LowestIsGiven, HandedTells, FreshInstallAccepted, AnswersDiffer, InstallWrites}
 
 pub no-second-outcome : NoSecondOutcome
 no-second-outcome o a e l m h i = (h .answers ∙ sym (i .answers), h .leaves ∙ sym (i .leaves))
@@ -103,27 +104,23 @@ given-lowest n (s ∷ tests) h = go (s .applies) refl (given-lowest _ tests (asc
     go true e g = first
     go false e g = behind (lowest tests) e g
 
--- every row of the table of calls ascends
+-- what each of a list passes, and any other, the one at i passes
+abbrev every : (Call → Bool) → List Call → Bool
+every test [] = true
+every test (x ∷ l) = test x && every test l
+
+every-at : (test : Call → Bool) (l : List Call) (other : Call) → test other ≡ true → every test l ≡ true → (i : ℕ)
+    → test (getD l i other) ≡ true
+every-at test [] other o h i = o
+every-at test (x ∷ l) other o h zero = both (test x) (every test l) h .0
+every-at test (x ∷ l) other o h (suc i) = every-at test l other o (both (test x) (every test l) h .1) i
+
+-- every row of the table of calls ascends: computed for the calls of all kinds, and a call is one of them
 row-ascends : (z : Size) (l : List ℕ) (b : Board) (c : ℕ) (call : Call) → ascends 0 (row z l b c call) ≡ true
-row-ascends z l b c (Install k s p sptr name) = refl
-row-ascends z l b c (PostInterrupt k) = refl
-row-ascends z l b c (Find name) = refl
-row-ascends z l b c (CancelTask k) = refl
-row-ascends z l b c Claim = refl
-row-ascends z l b c (Prepare m s p sptr) = refl
-row-ascends z l b c (Release m) = refl
-row-ascends z l b c (Send m r) = refl
-row-ascends z l b c (SendAndWait m r) = refl
-row-ascends z l b c (Resend m) = refl
-row-ascends z l b c (ResendAndWait m) = refl
-row-ascends z l b c (Forward m r) = refl
-row-ascends z l b c (ForwardAndWait m r) = refl
-row-ascends z l b c (Return m) = refl
-row-ascends z l b c (ReturnAndWait m) = refl
-row-ascends z l b c Receive = refl
-row-ascends z l b c ReceiveAndWait = refl
-row-ascends z l b c (CancelMessage m r) = refl
-row-ascends z l b c WaitForInterrupt = refl
+row-ascends z l b c call =
+    let test : Call → Bool = λ x. ascends 0 (row z l b c x) in
+    let a = argumentsOf call in
+    subst (λ (x : Call). test x ≡ true) (a .again) (every-at test (callsOf _ _ _ _ _) (Find 0) refl refl (a .kind - 1))
 
 -- ---- no row gives 15
 ascend-below : (n : ℕ) (tests : List Test) → ascends n tests ≡ true → n < 15
@@ -176,10 +173,6 @@ told-handed (Refused NothingToDeliver) = refl
 
 pub handed-tells : HandedTells
 handed-tells a e h = sym (told-handed a) ∙ ap told h ∙ told-handed e
-
--- ---- a call's kind, words and bytes tell the call
-pub arguments-tell : ArgumentsTell
-arguments-tell a b c s p = refl
 
 -- ---- not a definition that refuses all, answers always the same, or writes nothing
 pub fresh-install-accepted : FreshInstallAccepted

@@ -4,13 +4,12 @@
 --   LowestIsGiven       of the refusals in a call's row the one given has the lowest number of those that apply, and none is given only
 --                       where none applies
 --   HandedTells         the paper's number and values tell the answer
---   ArgumentsTell       the call of each kind, taken apart and made again, is that call
 --   FreshInstallAccepted, AnswersDiffer, InstallWrites   the definitions refuse not all, answer not always the same, and do write
 -- Assumes nothing.
 use mathlib.Core.Path.{_≡_}
 use mathlib.Core.Logic.{_≢_}
 use mathlib.Core.Bool.{Bool, true, false}
-use mathlib.Core.List.{List, map}
+use mathlib.Core.List.{List}
 use Prim.Native.Nat.{ℕ, _≤_}
 use Rattle.links.specs.Chain.{In}
 use Rattle.board.specs.declared.numbers.Size.{Size}
@@ -22,7 +21,6 @@ use Rattle.paper.specs.declared.answer.Refusal.{Refusal}
 use Rattle.paper.specs.declared.answer.Answer.{Answer}
 use Rattle.paper.specs.declared.answer.Answer.the-variants.{Accepted, Refused}
 use Rattle.paper.specs.Answers.{numberOf, handed}
-use Rattle.paper.specs.Arguments.{argumentsOf, callsOf, callOf}
 use Rattle.paper.specs.Refusals.{Test, row, Verdict, Go, Stop, lowest}
 use Rattle.paper.specs.Outcomes.{Outcome, Ends, effect, fresh, check, blank}
 
@@ -47,9 +45,6 @@ LowestIsGiven = (z : Size) (l : List ℕ) (b : Board) (c : ℕ) (call : Call) �
 
 abbrev pub HandedTells : Type 0
 HandedTells = (a e : Answer) → handed a ≡ handed e → a ≡ e
-
-abbrev pub ArgumentsTell : Type 0
-ArgumentsTell = (a b c s p : ℕ) → map (λ call. callOf (argumentsOf call)) (callsOf a b c s p) ≡ callsOf a b c s p
 
 -- ---- not a definition that refuses all, answers always the same, or writes nothing
 abbrev pub FreshInstallAccepted : Type 0
