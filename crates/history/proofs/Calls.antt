@@ -6,27 +6,25 @@ use mathlib.Core.Logic.{_≢_}
 use mathlib.Core.Bool.{Bool, true, false}
 use mathlib.Core.List.{List, [], _∷_}
 use Prim.Native.Nat.{ℕ}
-use borrow.Author.Tests.{eqb-false}
 use Rattle.board.specs.declared.numbers.Size.{Size}
 use Rattle.board.specs.declared.places.Place.the-variants.{HeldBy}
-use Rattle.board.specs.Numbers.{outside, taskNo}
+use Rattle.board.specs.Numbers.{taskNo}
 use Rattle.board.specs.Board.{Board, message, place}
-use Rattle.board.proofs.Pieces.{outside-within, neither}
 use Rattle.paper.specs.declared.call.Call.{Call}
 use Rattle.paper.specs.declared.call.Call.the-variants.{Install, PostInterrupt, Find, CancelTask, Claim, Prepare, Release}
 use Rattle.paper.specs.declared.call.Call.the-variants.{Send, SendAndWait, Resend, ResendAndWait, Forward, ForwardAndWait, Return, ReturnAndWait}
 use Rattle.paper.specs.declared.call.Call.the-variants.{Receive, ReceiveAndWait, CancelMessage, WaitForInterrupt}
-use Rattle.paper.specs.Rules.{present, running}
+use Rattle.paper.specs.Rules.{running}
 use Rattle.paper.specs.Changes.{takeFirst}
-use Rattle.paper.specs.Effects.{lowestFree, waits}
-use Rattle.paper.specs.Refusals.{Test, no3, no4, no5, no6, no7, no7Install, no8, no9, no10, no11, no14, ownRow, Go, lowest}
+use Rattle.paper.specs.Effects.{waits}
+use Rattle.paper.specs.Refusals.{Test, no3, no4, no5, no6, no7, no10, no14, ownRow, Go, lowest}
 use Rattle.paper.specs.Outcomes.{Undispatched, undispatched, body}
 use Rattle.linked.specs.Linked.{Numbered}
 use Rattle.linked.proofs.Running.{runner-says}
 use Rattle.kept.specs.Settled.{Settled}
 use Rattle.kept.specs.Touched.{touched, changed, orderAfter, queuesAfter}
 use Rattle.kept.specs.Claims.{Sizes}
-use Rattle.kept.proofs.Reading.{go-passed, runner-passed, held-row, task-passed}
+use Rattle.kept.proofs.Reading.{go-passed, runner-passed, held-row, task-passed, install-row, cancel-row, claim-row}
 use Rattle.kept.proofs.Waiting.{task-numbered}
 use Rattle.kept.proofs.Placing.{sender-passed, send-settled, forward-settled}
 use Rattle.kept.proofs.Taking.{first-left, cancel-message-row}
@@ -105,14 +103,6 @@ module _ (z : Size) (b : Board) (q : List ℕ) (f : ℕ → List ℕ) (a : Sizes
       let (runs, held, there, rest) = sender-passed z b q f a h m r tests g in
       (held, task-numbered z b q f h r there, runner-numbered runs)
 
-  -- 7, 8 and 9: the task to install is one of the board's, and absent
-  installable : (k t prio : ℕ) → lowest (no7Install prio ∷ no8 z b k ∷ no9 t ∷ []) ≡ Go
-      → Numbered (z .tasks) k × (present b k ≡ false)
-  installable k t prio g =
-      let u = go-passed (no8 z b k) (no9 t ∷ []) (go-passed (no7Install prio) (no8 z b k ∷ no9 t ∷ []) g .1) in
-      let d = neither (outside (z .tasks) k) (present b k) (u .0) in
-      (outside-within (z .tasks) k (d .0), d .1)
-
   -- ---- messages placed
   sends : (m r : ℕ) → CallAlike z b q f (Send m r) (plain.sends z p c m r)
   sends m r = record {
@@ -151,7 +141,7 @@ module _ (z : Size) (b : Board) (q : List ℕ) (f : ℕ → List ℕ) (a : Sizes
   calls-alike (Install k t prio sptr name) = record {
     verdict = refl;
     value = λ g. refl;
-    same = λ g. let d = installable k t prio g in install-same z b q f a h l s n w k t prio sptr name (d .0) (d .1);
+    same = λ g. let d = install-row z b k t prio g in install-same z b q f a h l s n w k t prio sptr name (d .1) (d .2);
   }
   calls-alike (PostInterrupt k) = record {
     verdict = refl;
@@ -166,14 +156,12 @@ module _ (z : Size) (b : Board) (q : List ℕ) (f : ℕ → List ℕ) (a : Sizes
   calls-alike (CancelTask k) = record {
     verdict = busy-row k;
     value = λ g. refl;
-    same = λ g. let t = go-passed (no6 z b k) (no10 b k ∷ []) (go-passed (no3 c) (no6 z b k ∷ no10 b k ∷ []) g .1) in
-        cancel-same z b q f a h l s n w k (task-passed z b k (t .0) .0);
+    same = λ g. cancel-same z b q f a h l s n w k (cancel-row z b c k g .0);
   }
   calls-alike Claim = record {
     verdict = rw (asked-free z b q f h l s n);
     value = λ g. sym (asked-free z b q f h l s n);
-    same = λ g. let t = go-passed (no11 b) [] (go-passed (no3 c) (no11 b ∷ []) g .1) in
-        claim-same z b q f a h l s n w c (eqb-false (lowestFree b) 0 (t .0));
+    same = λ g. claim-same z b q f a h l s n w c (claim-row b c g .1);
   }
   calls-alike (Prepare m t prio sptr) = record {
     verdict = rw (held-alike c (place b m));

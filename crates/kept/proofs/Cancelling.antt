@@ -25,14 +25,14 @@ use Rattle.paper.specs.declared.call.Call.the-variants.{CancelTask}
 use Rattle.paper.specs.Rules.{isThere, present, nextTask, nextMessage, emptyQueue, taskNumber}
 use Rattle.paper.specs.Changes.{linkTask, withOrder}
 use Rattle.paper.specs.Effects.{cancelTask}
-use Rattle.paper.specs.Refusals.{no3, no6, holdsOne, no10, ownRow, Go, lowest}
+use Rattle.paper.specs.Refusals.{holdsOne, ownRow, Go, lowest}
 use Rattle.linked.specs.Linked.{Numbered}
 use Rattle.linked.proofs.Running.{present-numbered, which-none}
 use Rattle.kept.specs.Settled.{Settled}
 use Rattle.kept.specs.Touched.{OutOfOrder, orderAfter}
 use Rattle.kept.specs.Claims.{Sizes}
 use Rattle.kept.proofs.Reading.{task-put, task-other, sorted-stays}
-use Rattle.kept.proofs.Reading.{good-stays, order-walked, go-passed, task-passed}
+use Rattle.kept.proofs.Reading.{good-stays, order-walked, cancel-row}
 use Rattle.kept.proofs.Flagging.{flags-ready}
 use Rattle.kept.proofs.Installing.{settled-order}
 
@@ -121,10 +121,8 @@ module _ (z : Size) (b : Board) (q : List ℕ) (queues : ℕ → List ℕ) (a : 
   pub cancel-settled : (c : ℕ) → lowest (ownRow z b c (CancelTask k)) ≡ Go
       → Settled z (cancelTask z b k) (orderAfter b q (OutOfOrder k)) queues
   cancel-settled c g =
-      let runs = go-passed (no3 c) (no6 z b k ∷ no10 b k ∷ []) g in
-      let meant = go-passed (no6 z b k) (no10 b k ∷ []) (runs .1) in
-      let idle = go-passed (no10 b k) [] (meant .1) in
-      let parked = neither (not (emptyQueue b k) || holdsOne b k) (has (task b k .stat) IWAT) (idle .0) in
+      let (n, there, idle) = cancel-row z b c k g in
+      let parked = neither (not (emptyQueue b k) || holdsOne b k) (has (task b k .stat) IWAT) idle in
       let none = neither (not (emptyQueue b k)) (holdsOne b k) (parked .0) in
-      settled-cancel (task-passed z b k (meant .0) .1) (eqb-true (task b k .mptr) 0 (not-false (emptyQueue b k) (none .0)))
+      settled-cancel there (eqb-true (task b k .mptr) 0 (not-false (emptyQueue b k) (none .0)))
       (none-held (none .1))

@@ -2,37 +2,36 @@
 -- Assumes nothing.
 use mathlib.Core.Path.{_≡_, refl, sym, ap, _∙_, subst}
 use mathlib.Core.Logic.{_≢_, _↔_}
-use mathlib.Core.Bool.{Bool, true, false, true≢false}
+use mathlib.Core.Bool.{true, false, true≢false}
 use mathlib.Core.List.{List, [], _∷_}
 use Prim.Native.Nat.{ℕ, _≤_}
 use native.Mathlib.Omega.{arith}
 use native.Mathlib.Decide.{ℕ-discrete}
 use lib.Dec.{lit<}
-use lib.ListN.{length}
-use borrow.Author.Tests.{ltb-false, eqb-false}
+use borrow.Author.Tests.{ltb-false}
 use Rattle.links.specs.Chain.{In}
 use Rattle.board.specs.declared.numbers.Size.{Size}
 use Rattle.board.specs.declared.records.Message.{Message}
 use Rattle.board.specs.declared.places.Place.{Place}
-use Rattle.board.specs.declared.places.Place.the-variants.{Free, HeldBy, QueuedAt, Nowhere}
+use Rattle.board.specs.declared.places.Place.the-variants.{Free, HeldBy, QueuedAt}
 use Rattle.board.specs.Numbers.{taskNo}
 use Rattle.board.specs.Status.{number}
 use Rattle.board.specs.Records.{noMessage}
-use Rattle.board.specs.Places.{isFree, isQueued}
+use Rattle.board.specs.Places.{isQueued}
 use Rattle.board.specs.Board.{Board, task, message, place, withMessage, withPlace}
 use Rattle.board.proofs.Codec.{place-held}
 use Rattle.paper.specs.declared.call.Call.the-variants.{Claim, Prepare, Release}
 use Rattle.paper.specs.Rules.{present, nextMessage, messageNumber, running}
 use Rattle.paper.specs.Effects.{lowestFree, claim, release, prepare}
-use Rattle.paper.specs.Refusals.{no3, no11, no14, ownRow, Go, lowest}
+use Rattle.paper.specs.Refusals.{no14, ownRow, Go, lowest}
 use Rattle.linked.specs.Linked.{Numbered}
 use Rattle.linked.specs.Sound.{Pointers, PlaceGood}
-use Rattle.linked.proofs.Running.{present-numbered, placed-numbered, which-first, runner-says, lowest-free}
+use Rattle.linked.proofs.Running.{present-numbered, placed-numbered, runner-says, lowest-free}
 use Rattle.kept.specs.Settled.{Byte, Word, FitsMessage, Settled, Fitting}
 use Rattle.kept.specs.Claims.{Sizes}
 use Rattle.kept.proofs.Reading.{nth-cases, message-put, message-other, held-placed}
 use Rattle.kept.proofs.Reading.{FitsPlace, fits-message, fits-place, listing-stays, good-stays}
-use Rattle.kept.proofs.Reading.{go-passed, runner-passed, held-row}
+use Rattle.kept.proofs.Reading.{go-passed, held-row, claim-row}
 
 -- ---- in no queue
 module _ (z : Size) (b : Board) (order : List ℕ) (queues : ℕ → List ℕ) (s : Settled z b order queues) (m : ℕ) where
@@ -138,9 +137,8 @@ module _ (z : Size) (b : Board) (order : List ℕ) (queues : ℕ → List ℕ) (
   pub claim-settled : let c = running z b in lowest (ownRow z b c Claim) ≡ Go → Settled z (claim b c) order queues
   claim-settled g =
       let c : ℕ = running z b in
-      let r = go-passed (no3 c) (no11 b ∷ []) g in
-      let f = go-passed (no11 b) [] (r .1) in
-      settled-claim c (runner-says z b (runner-passed c (r .0)) .0) (eqb-false (lowestFree b) 0 (f .0))
+      let (runs, free) = claim-row b c g in
+      settled-claim c (runner-says z b runs .0) free
 
 -- ---- release and prepare
 module _ (z : Size) (b : Board) (order : List ℕ) (queues : ℕ → List ℕ) (s : Settled z b order queues) where

@@ -22,17 +22,17 @@ use Rattle.board.specs.declared.status.Status.{Status}
 use Rattle.board.specs.declared.records.Task.{Task}
 use Rattle.board.specs.declared.records.Message.{Message}
 use Rattle.board.specs.declared.places.Place.the-variants.{QueuedAt}
-use Rattle.board.specs.Numbers.{outside, taskNo}
+use Rattle.board.specs.Numbers.{taskNo}
 use Rattle.board.specs.Status.{WAIT, IWAT, BIT5, INTQ, MHBS, TCBB, stored, has, number}
 use Rattle.board.specs.Records.{noTask, taskWithLink}
 use Rattle.board.specs.Board.{Board, task, message, place, withTask}
 use Rattle.board.proofs.Numbered.{length-put}
-use Rattle.board.proofs.Pieces.{outside-within, neither}
+use Rattle.board.proofs.Pieces.{neither}
 use Rattle.paper.specs.declared.call.Call.the-variants.{Install}
 use Rattle.paper.specs.Rules.{isThere, present, nextTask, nextMessage, order, taskNumber, messageNumber, goodHead}
 use Rattle.paper.specs.Changes.{linkTask, withOrder}
 use Rattle.paper.specs.Effects.{install}
-use Rattle.paper.specs.Refusals.{no7Install, no8, no9, ownRow, Go, lowest}
+use Rattle.paper.specs.Refusals.{no9, ownRow, Go, lowest}
 use Rattle.linked.specs.Linked.{Listing, Numbered}
 use Rattle.linked.specs.Sound.{Proper, PlaceGood}
 use Rattle.linked.proofs.Tests.{says-goodHead}
@@ -42,7 +42,7 @@ use Rattle.kept.specs.Touched.{IntoOrder, orderAfter}
 use Rattle.kept.specs.Claims.{Sizes}
 use Rattle.kept.proofs.Reading.{nth-cases, task-put, task-other, task-alike, fits-first, fits-task}
 use Rattle.kept.proofs.Reading.{relink-keeps, first-holds, relink-holds, sorted-stays, listing-stays, listing-start}
-use Rattle.kept.proofs.Reading.{Lawful, absent-none, good-stays, order-walked, go-passed}
+use Rattle.kept.proofs.Reading.{Lawful, absent-none, good-stays, order-walked, install-row}
 use Rattle.kept.proofs.Flagging.{Flagged, flags-ready}
 
 -- ---- the task queue relinked
@@ -237,11 +237,9 @@ module _ (z : Size) (b : Board) (q : List ℕ) (queues : ℕ → List ℕ) (a : 
   pub install-settled : (c : ℕ) → Fitting (Install k stat p sptr name) → lowest (ownRow z b c (Install k stat p sptr name)) ≡ Go
       → Settled z (install z b k stat p sptr name) (orderAfter b q (IntoOrder k p)) queues
   install-settled c f g =
-      let prio = go-passed (no7Install p) (no8 z b k ∷ no9 stat ∷ []) g in
-      let room = go-passed (no8 z b k) (no9 stat ∷ []) (prio .1) in
-      let n = neither (outside (z .tasks) k) (present b k) (room .0) in
-      let t = status-says stat (go-passed (no9 stat) [] (room .1) .0) in
-      let good : goodHead (stored stat) p ≡ true = and-true _ _ (and-true _ _ (t .0) (ap not (t .3))) (not-false _ (prio .0)) in
-      settled-install (outside-within (z .tasks) k (n .0)) (n .1)
+      let (prio, n, absent, bits) = install-row z b k stat p g in
+      let t = status-says stat bits in
+      let good : goodHead (stored stat) p ≡ true = and-true _ _ (and-true _ _ (t .0) (ap not (t .3))) (not-false _ prio) in
+      settled-install n absent
       (record { stat = f .1 .0; prio = f .1 .1 .0; link = lit< tt; mptr = lit< tt; sptr = f .0 .1 .0; name = f .0 .1 .1 .0 })
       (says-goodHead installed .0 good) (t .1) (t .2) (t .4)

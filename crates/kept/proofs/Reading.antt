@@ -3,37 +3,34 @@
 -- Assumes nothing.
 use mathlib.Core.Path.{_≡_, refl, sym, ap, _∙_, subst}
 use mathlib.Core.Logic.{_≢_, _⊎_, inl, inr, _↔_, Iff·rfl}
-use mathlib.Core.Bool.{Bool, true, false, not, _&&_, _||_, cond, true≢false}
+use mathlib.Core.Bool.{Bool, true, false, not, cond, true≢false}
 use mathlib.Core.List.{List, [], _∷_}
-use Prim.Native.Nat.{ℕ, zero, suc, _+_, _-_, _≤_, _<_}
+use Prim.Native.Nat.{ℕ, zero, suc, _-_, _≤_}
 use native.Mathlib.Omega.{arith}
 use lib.ListN.{length, getD, set}
-use borrow.Author.Tests.{eqb-true, eqb-false, not-true, not-false}
-use Rattle.links.specs.Queue.{firstOf, firstWith, which, relink}
+use borrow.Author.Tests.{eqb-false, not-false}
+use Rattle.links.specs.Queue.{firstOf, relink}
 use Rattle.links.specs.Chain.{In, All, Sorted, Chain}
-use Rattle.links.proofs.Bools.{both}
 use Rattle.links.proofs.Members.{all-of, all-at}
 use Rattle.links.proofs.Chains.{chain-frame}
-use Rattle.links.proofs.Exactly.{in-which}
 use Rattle.board.specs.declared.numbers.Size.{Size}
-use Rattle.board.specs.declared.status.Status.{Status}
 use Rattle.board.specs.declared.records.Task.{Task}
 use Rattle.board.specs.declared.records.Message.{Message}
 use Rattle.board.specs.declared.places.Place.{Place}
 use Rattle.board.specs.declared.places.Place.the-variants.{Free, HeldBy, QueuedAt, Nowhere}
 use Rattle.board.specs.Numbers.{outside, taskNo}
-use Rattle.board.specs.Status.{WAIT, IWAT, has, isPresent}
 use Rattle.board.specs.Records.{noTask, noMessage}
 use Rattle.board.specs.Places.{placeOf, placeByte, isFree, isHeldBy, isQueuedAt}
 use Rattle.board.specs.Board.{Board, nth, put, task, message, place, withFirst, withTask, withMessage, withPlace}
 use Rattle.board.proofs.Numbered.{nth-put, nth-put-other, nth-alike, length-put}
 use Rattle.board.proofs.Pieces.{outside-within, neither}
-use Rattle.paper.specs.Rules.{isThere, present, order, queue, ready, running}
-use Rattle.paper.specs.Refusals.{Test, no3, no4, no5, no6, Verdict, Go, Stop, lowest}
+use Rattle.paper.specs.Rules.{isThere, present, order, queue}
+use Rattle.paper.specs.Effects.{lowestFree}
+use Rattle.paper.specs.Refusals.{Test, no3, no4, no5, no6, no7Install, no8, no9, no10, no11, Verdict, Go, Stop, lowest}
 use Rattle.linked.specs.Linked.{Listing, Numbered}
 use Rattle.linked.specs.Sound.{Proper, PlaceGood}
 use Rattle.linked.proofs.Tests.{says-isQueuedAt, says-isHeldBy}
-use Rattle.linked.proofs.Listings.{nth-numbered, which-nth, listing-walk}
+use Rattle.linked.proofs.Listings.{listing-walk}
 use Rattle.kept.specs.Settled.{Byte, FitsTask, FitsMessage, Fits, Settled}
 
 -- ---- a choice
@@ -275,3 +272,26 @@ pub task-passed : (z : Size) (b : Board) (r : ℕ) → no6 z b r .applies ≡ fa
 task-passed z b r e =
     let n = neither (outside (z .tasks) r) (not (present b r)) e in
     (outside-within (z .tasks) r (n .0), not-false (present b r) (n .1))
+
+-- 7, 8 and 9, the row of install: the task is one of the board's, and absent
+pub install-row : (z : Size) (b : Board) (k s p : ℕ) → lowest (no7Install p ∷ no8 z b k ∷ no9 s ∷ []) ≡ Go
+    → (no7Install p .applies ≡ false) × Numbered (z .tasks) k × (present b k ≡ false) × (no9 s .applies ≡ false)
+install-row z b k s p g =
+    let prio = go-passed (no7Install p) (no8 z b k ∷ no9 s ∷ []) g in
+    let room = go-passed (no8 z b k) (no9 s ∷ []) (prio .1) in
+    let n = neither (outside (z .tasks) k) (present b k) (room .0) in
+    (prio .0, outside-within (z .tasks) k (n .0), n .1, go-passed (no9 s) [] (room .1) .0)
+
+-- 3, 6 and 10, the row of cancel task: the task is one of the board's, present, and not busy
+pub cancel-row : (z : Size) (b : Board) (c k : ℕ) → lowest (no3 c ∷ no6 z b k ∷ no10 b k ∷ []) ≡ Go
+    → Numbered (z .tasks) k × (present b k ≡ true) × (no10 b k .applies ≡ false)
+cancel-row z b c k g =
+    let meant = go-passed (no6 z b k) (no10 b k ∷ []) (go-passed (no3 c) (no6 z b k ∷ no10 b k ∷ []) g .1) in
+    let there = task-passed z b k (meant .0) in
+    (there .0, there .1, go-passed (no10 b k) [] (meant .1) .0)
+
+-- 3 and 11, the row of claim: somebody runs, and a message is free
+pub claim-row : (b : Board) (c : ℕ) → lowest (no3 c ∷ no11 b ∷ []) ≡ Go → (c ≢ 0) × (lowestFree b ≢ 0)
+claim-row b c g =
+    let runs = go-passed (no3 c) (no11 b ∷ []) g in
+    (runner-passed c (runs .0), eqb-false (lowestFree b) 0 (go-passed (no11 b) [] (runs .1) .0))
