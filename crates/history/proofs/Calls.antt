@@ -129,7 +129,7 @@ module _ (z : Size) (b : Board) (q : List ℕ) (f : ℕ → List ℕ) (a : Sizes
       (λ g. (forward-settled z b q f a h m r g .0, sender-row m r (no7 b m ∷ []) g .2)) (passes-on m r)
 
   -- ---- a task cancelled
-  -- where 6 has passed, so does 10 if it does on the machine
+  -- where 6 has passed, 10 is the same on the board and on the machine
   busy-row : (k : ℕ) → lowest (plain.play z p c (CancelTask k) .refusals) ≡ lowest (ownRow z b c (CancelTask k))
   busy-row k =
       lowest-then (no3 c) (no6 z b k ∷ plain.no10 z p k ∷ []) (no6 z b k ∷ no10 b k ∷ []) (λ e.
