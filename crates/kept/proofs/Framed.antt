@@ -13,17 +13,17 @@ use Rattle.links.proofs.Removal.{all-without, all-rest}
 use Rattle.board.specs.declared.numbers.Size.{Size}
 use Rattle.board.specs.declared.records.Message.{Message}
 use Rattle.board.specs.declared.places.Place.the-variants.{Free}
-use Rattle.board.specs.Status.{WAIT, IWAT, INTQ, MHBS, has, number}
+use Rattle.board.specs.Status.{WAIT, MHBS, has, number}
 use Rattle.board.specs.Records.{noTask, noMessage}
-use Rattle.board.specs.Board.{Board, task, message}
+use Rattle.board.specs.Board.{Board, task}
 use Rattle.board.proofs.Numbered.{nth-alike}
 use Rattle.paper.specs.declared.call.Call.{Call}
-use Rattle.paper.specs.declared.call.Call.the-variants.{Install, PostInterrupt, Find, CancelTask, Claim, Prepare, Release, Send, SendAndWait, Resend, ResendAndWait, Forward, ForwardAndWait, Return, ReturnAndWait, Receive, ReceiveAndWait, CancelMessage, WaitForInterrupt}
-use Rattle.paper.specs.Rules.{order, queue, emptyQueue, nextMessage, taskNumber, running}
-use Rattle.paper.specs.Changes.{sets, clears, linkMessage, hold, takeFirst}
+use Rattle.paper.specs.declared.call.Call.the-variants.{Install, CancelTask, Release, Receive, CancelMessage}
+use Rattle.paper.specs.Rules.{order, queue, emptyQueue, nextMessage, taskNumber}
+use Rattle.paper.specs.Changes.{sets, clears, linkMessage, hold}
 use Rattle.paper.specs.Effects.{queueWith, woken, emptied, placeAt, addressed, send, waits}
 use Rattle.paper.specs.Outcomes.{body}
-use Rattle.kept.specs.Touched.{Touched, touched, queueOf, relinks, Frame}
+use Rattle.kept.specs.Touched.{touched, queueOf, relinks, Frame}
 use Rattle.kept.proofs.Reading.{cond-holds}
 use Rattle.kept.proofs.Framing.{Linkable, frame-none, frame-then, frame-stat, frame-message, frame-place}
 use Rattle.kept.proofs.Framing.{frame-queue, frame-record, frame-order}
@@ -96,6 +96,10 @@ module _ (z : Size) (b : Board) (c : ℕ) where
 
   pub framed-cancel : (k : ℕ) → Framed (CancelTask k)
   framed-cancel k = frame-then (frame-order b (without k (order z b))) (frame-record _ k noTask (inl refl))
+
+  -- a message released
+  pub framed-release : (m : ℕ) → Framed (Release m)
+  framed-release m = frame-then (frame-message b m noMessage (inr (inl refl))) (frame-place _ m Free (inr (inl refl)))
 
   -- a message placed, sent, taken, taken back
   pub framed-place : (ts : List ℕ) (m r : ℕ) → In r ts → Frame b (placeAt z b m r) ts (m ∷ []) (queue z b r) false

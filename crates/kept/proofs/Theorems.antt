@@ -2,7 +2,7 @@
 -- Assumes nothing.
 use mathlib.Core.Path.{_≡_, refl, sym, ap, _∙_, subst}
 use mathlib.Core.Logic.{_≢_}
-use mathlib.Core.Bool.{Bool, true, false}
+use mathlib.Core.Bool.{true, false}
 use mathlib.Core.List.{List, _∷_}
 use Prim.Native.Nat.{ℕ}
 use native.Mathlib.Omega.{arith}
@@ -10,26 +10,22 @@ use lib.Dec.{lit<, lit≤}
 use borrow.Author.Tests.{not-false}
 use Rattle.links.specs.Queue.{firstWith}
 use Rattle.board.specs.declared.numbers.Size.{Size}
-use Rattle.board.specs.declared.status.Status.{Status}
-use Rattle.board.specs.declared.records.Task.{Task}
 use Rattle.board.specs.Numbers.{small}
 use Rattle.board.specs.Status.{MHBS, has}
 use Rattle.board.specs.Board.{Board, boardOf, bytesOf, task}
 use Rattle.paper.specs.declared.call.Call.{Call}
-use Rattle.paper.specs.declared.answer.Refusal.{Refusal}
-use Rattle.paper.specs.declared.answer.Refusal.the-variants.{WrongLength, RuleBroken, NothingToDeliver}
+use Rattle.paper.specs.declared.answer.Refusal.the-variants.{NothingToDeliver}
 use Rattle.paper.specs.declared.answer.Answer.{Answer}
-use Rattle.paper.specs.declared.answer.Answer.the-variants.{Accepted, Refused}
+use Rattle.paper.specs.declared.answer.Answer.the-variants.{Refused}
 use Rattle.paper.specs.Answers.{numberOf, handed}
 use Rattle.paper.specs.Rules.{ready, order, running, passes}
-use Rattle.paper.specs.Refusals.{Test, no1, no2, ownRow, row, Verdict, Go, Stop, lowest}
+use Rattle.paper.specs.Refusals.{no1, no2, ownRow, row, Verdict, Go, Stop, lowest}
 use Rattle.paper.specs.Outcomes.{Outcome, Undispatched, judge, body, dispatch, accepted}
 use Rattle.paper.proofs.Theorems.{row-below}
-use Rattle.linked.specs.Linked.{Linked}
 use Rattle.linked.specs.Sound.{Sound}
 use Rattle.linked.proofs.Boards.{says-passes}
 use Rattle.kept.specs.Settled.{Fits, Settled, Fitting}
-use Rattle.kept.specs.Touched.{Touched, touched, orderAfter, queuesAfter}
+use Rattle.kept.specs.Touched.{touched, orderAfter, queuesAfter}
 use Rattle.kept.specs.Claims.{Sizes, Bytes, NeverStuck, PassingStaysPassing}
 use Rattle.kept.proofs.Reading.{order-walked, go-passed}
 use Rattle.kept.proofs.Fitting.{board-bytes, bytes-fit, fits-board}

@@ -6,13 +6,11 @@
 -- Assumes nothing.
 use mathlib.Core.Path.{_≡_}
 use mathlib.Core.Logic.{_≢_}
-use mathlib.Core.Bool.{Bool, true, false}
+use mathlib.Core.Bool.{true, false}
 use mathlib.Core.List.{List, [], _∷_}
 use Prim.Native.Nat.{ℕ, _≤_, _<_}
 use lib.ListN.{length, getD}
 use Rattle.board.specs.declared.numbers.Size.{Size}
-use Rattle.board.specs.declared.status.Status.{Status}
-use Rattle.board.specs.declared.records.Task.{Task}
 use Rattle.board.specs.Status.{MHBS, has}
 use Rattle.board.specs.Board.{Board, total, boardOf, task}
 use Rattle.paper.specs.declared.call.Call.{Call}
@@ -21,9 +19,9 @@ use Rattle.paper.specs.declared.answer.Answer.the-variants.{Refused}
 use Rattle.paper.specs.Rules.{queue, running, passes}
 use Rattle.paper.specs.Changes.{clears, takeFirst}
 use Rattle.paper.specs.Refusals.{ownRow, Go, lowest}
-use Rattle.paper.specs.Outcomes.{Outcome, Undispatched, body, effect}
+use Rattle.paper.specs.Outcomes.{body, effect}
 use Rattle.kept.specs.Settled.{Byte, Settled, Fitting}
-use Rattle.kept.specs.Touched.{Touched, touched, orderAfter, queuesAfter, queueOf, relinks, Frame}
+use Rattle.kept.specs.Touched.{touched, orderAfter, queuesAfter, queueOf, relinks, Frame}
 
 -- sizes for which a place byte tells held from queued and both from 128, links are words, and one limit serves both kinds of walk
 pub record Sizes (z : Size) : Type 0 where

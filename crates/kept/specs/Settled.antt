@@ -11,15 +11,13 @@ use Prim.Native.Nat.{ℕ, _<_}
 use lib.ListN.{length}
 use Rattle.links.specs.Chain.{All}
 use Rattle.board.specs.declared.numbers.Size.{Size}
-use Rattle.board.specs.declared.status.Status.{Status}
 use Rattle.board.specs.declared.records.Task.{Task}
 use Rattle.board.specs.declared.records.Message.{Message}
-use Rattle.board.specs.declared.places.Place.{Place}
 use Rattle.board.specs.Records.{noTask}
 use Rattle.board.specs.Places.{placeOf, placeByte}
 use Rattle.board.specs.Board.{Board, task, message, place}
 use Rattle.paper.specs.declared.call.Call.{Call}
-use Rattle.paper.specs.Arguments.{Arguments, argumentsOf}
+use Rattle.paper.specs.Arguments.{argumentsOf}
 use Rattle.linked.specs.Linked.{Numbered, Linked}
 use Rattle.linked.specs.Sound.{Proper, PlaceGood, Flags}
 

@@ -14,7 +14,6 @@ use Rattle.links.proofs.Bools.{both}
 use Rattle.links.proofs.Exactly.{in-which}
 use Rattle.board.specs.declared.numbers.Size.{Size}
 use Rattle.board.specs.declared.status.Status.{Status}
-use Rattle.board.specs.declared.records.Task.{Task}
 use Rattle.board.specs.declared.places.Place.the-variants.{Free}
 use Rattle.board.specs.Status.{WAIT, IWAT, has, isPresent}
 use Rattle.board.specs.Records.{noTask}

@@ -8,7 +8,7 @@ use native.Mathlib.Omega.{arith}
 use lib.ListN.{length}
 use Rattle.links.specs.Queue.{firstOf}
 use Rattle.links.specs.Chain.{Chain}
-use Rattle.links.specs.Seek.{Spot, seek}
+use Rattle.links.specs.Seek.{seek}
 use Rattle.links.proofs.Insertion.{before, after, lastOr, last0}
 
 -- ---- a turn, where fuel and number are no `suc`

@@ -6,16 +6,17 @@ use mathlib.Core.List.{List, [], _∷_, _++_, map}
 use Prim.Native.Nat.{ℕ}
 use lib.ListN.{replicate}
 use Rattle.board.specs.declared.numbers.Size.{Size}
-use Rattle.board.specs.declared.records.Message.{Message}
 use Rattle.board.specs.Board.{boardOf, message}
 use Rattle.paper.specs.declared.call.Call.{Call}
-use Rattle.paper.specs.declared.call.Call.the-variants.{Install, PostInterrupt, Find, Claim, Prepare, Release, Send, Resend, Forward, Return, Receive, ReceiveAndWait, CancelMessage, WaitForInterrupt}
+use Rattle.paper.specs.declared.call.Call.the-variants.{Install, PostInterrupt, Find, Claim, Prepare, Release, Send, Resend, Forward}
+use Rattle.paper.specs.declared.call.Call.the-variants.{Return, Receive, ReceiveAndWait, CancelMessage, WaitForInterrupt}
 use Rattle.paper.specs.declared.answer.Answer.{Answer}
 use Rattle.paper.specs.declared.answer.Answer.the-variants.{Accepted, Refused}
-use Rattle.paper.specs.declared.answer.Refusal.the-variants.{RuleBroken, NoSuchMessage, NotHeld, NoSuchTask, BadPriority, NotInstallable, BadSender}
+use Rattle.paper.specs.declared.answer.Refusal.the-variants.{RuleBroken, NoSuchMessage, NotHeld, NoSuchTask, BadPriority}
+use Rattle.paper.specs.declared.answer.Refusal.the-variants.{NotInstallable, BadSender}
 use Rattle.paper.specs.Rules.{queue, order}
-use Rattle.paper.specs.Outcomes.{Outcome, blank, check}
-use Rattle.paper.specs.History.{Ran, run}
+use Rattle.paper.specs.Outcomes.{blank, check}
+use Rattle.paper.specs.History.{run}
 
 abbrev tiny : Size
 tiny = record { tasks = 3; messages = 4 }

@@ -11,22 +11,23 @@ use borrow.Author.Tests.{ltb-true}
 use Rattle.links.specs.Chain.{In}
 use Rattle.links.proofs.Bools.{both}
 use Rattle.board.specs.declared.numbers.Size.{Size}
-use Rattle.board.specs.declared.status.Status.{Status}
-use Rattle.board.specs.declared.records.Task.{Task}
 use Rattle.board.specs.Status.{MHBS, has}
 use Rattle.board.specs.Board.{Board, boardOf, bytesOf, task}
 use Rattle.paper.specs.declared.call.Call.{Call}
 use Rattle.paper.specs.declared.call.Call.the-variants.{Find}
-use Rattle.paper.specs.Arguments.{Arguments, callsOf, argumentsOf}
+use Rattle.paper.specs.Arguments.{callsOf, argumentsOf}
 use Rattle.paper.specs.declared.answer.Refusal.{Refusal}
-use Rattle.paper.specs.declared.answer.Refusal.the-variants.{WrongLength, RuleBroken, NobodyRuns, NoSuchMessage, NotHeld, NoSuchTask, BadPriority, NotInstallable, BadStatus, TaskBusy, NoneFree, NotQueued, NotItsSender, BadSender, NothingToDeliver}
+use Rattle.paper.specs.declared.answer.Refusal.the-variants.{WrongLength, RuleBroken, NobodyRuns, NoSuchMessage, NotHeld, NoSuchTask}
+use Rattle.paper.specs.declared.answer.Refusal.the-variants.{BadPriority, NotInstallable, BadStatus, TaskBusy, NoneFree, NotQueued}
+use Rattle.paper.specs.declared.answer.Refusal.the-variants.{NotItsSender, BadSender, NothingToDeliver}
 use Rattle.paper.specs.declared.answer.Answer.{Answer}
 use Rattle.paper.specs.declared.answer.Answer.the-variants.{Accepted, Refused}
 use Rattle.paper.specs.Answers.{numberOf, Handed, handed}
 use Rattle.paper.specs.Rules.{emptyQueue, running}
 use Rattle.paper.specs.Refusals.{Test, no1, no2, row, Verdict, Go, Stop, lowest}
-use Rattle.paper.specs.Outcomes.{Outcome, Ends, Undispatched, accepted, refused, judge, deliver, dispatchTo, dispatch, body, blank}
-use Rattle.paper.specs.Claims.{NoSecondOutcome, Unchanged, RefusalChangesNothing, Given, LowestIsGiven, HandedTells, FreshInstallAccepted, AnswersDiffer, InstallWrites}
+use Rattle.paper.specs.Outcomes.{Outcome, Undispatched, accepted, refused, judge, deliver, dispatchTo, dispatch, body, blank}
+use Rattle.paper.specs.Claims.{NoSecondOutcome, Unchanged, RefusalChangesNothing, Given, LowestIsGiven, HandedTells}
+use Rattle.paper.specs.Claims.{FreshInstallAccepted, AnswersDiffer, InstallWrites}
 
 pub no-second-outcome : NoSecondOutcome
 no-second-outcome o a e l m h i = (h .answers ∙ sym (i .answers), h .leaves ∙ sym (i .leaves))

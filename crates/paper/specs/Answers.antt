@@ -4,7 +4,9 @@
 -- Assumes nothing.
 use Prim.Native.Nat.{ℕ}
 use Rattle.paper.specs.declared.answer.Refusal.{Refusal}
-use Rattle.paper.specs.declared.answer.Refusal.the-variants.{WrongLength, RuleBroken, NobodyRuns, NoSuchMessage, NotHeld, NoSuchTask, BadPriority, NotInstallable, BadStatus, TaskBusy, NoneFree, NotQueued, NotItsSender, BadSender, NothingToDeliver}
+use Rattle.paper.specs.declared.answer.Refusal.the-variants.{WrongLength, RuleBroken, NobodyRuns, NoSuchMessage, NotHeld, NoSuchTask}
+use Rattle.paper.specs.declared.answer.Refusal.the-variants.{BadPriority, NotInstallable, BadStatus, TaskBusy, NoneFree, NotQueued}
+use Rattle.paper.specs.declared.answer.Refusal.the-variants.{NotItsSender, BadSender, NothingToDeliver}
 use Rattle.paper.specs.declared.answer.Answer.{Answer}
 use Rattle.paper.specs.declared.answer.Answer.the-variants.{Accepted, Refused}
 

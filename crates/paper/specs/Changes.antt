@@ -9,9 +9,6 @@ use mathlib.Core.List.{List}
 use Prim.Native.Nat.{ℕ}
 use Rattle.links.specs.Queue.{firstOf, restOf, relink}
 use Rattle.board.specs.declared.numbers.Size.{Size}
-use Rattle.board.specs.declared.numbers.TaskNo.{TaskNo}
-use Rattle.board.specs.declared.status.Status.{Status}
-use Rattle.board.specs.declared.records.Task.{Task}
 use Rattle.board.specs.declared.places.Place.the-variants.{HeldBy}
 use Rattle.board.specs.Numbers.{taskNo}
 use Rattle.board.specs.Status.{withBit, withoutBit}

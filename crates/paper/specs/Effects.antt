@@ -1,16 +1,12 @@
 -- Document 01, 'The nineteen calls': what each does to the board, in the paper's order. A reader must believe this file.
 -- c is the running task. Each effect is made of the changes of Changes, so every other byte stays.
 -- Assumes nothing.
-use mathlib.Core.Bool.{Bool, true, cond, _&&_}
+use mathlib.Core.Bool.{true, cond, _&&_}
 use mathlib.Core.List.{List}
 use Prim.Native.Nat.{ℕ, _+_, _*_, _%_}
 use lib.Dec.{eqb}
 use Rattle.links.specs.Queue.{firstOf, goesBefore, insert, without, which, firstWith}
 use Rattle.board.specs.declared.numbers.Size.{Size}
-use Rattle.board.specs.declared.numbers.TaskNo.{TaskNo}
-use Rattle.board.specs.declared.status.Status.{Status}
-use Rattle.board.specs.declared.records.Task.{Task}
-use Rattle.board.specs.declared.records.Message.{Message}
 use Rattle.board.specs.declared.places.Place.the-variants.{Free, HeldBy, QueuedAt}
 use Rattle.board.specs.Numbers.{taskNo}
 use Rattle.board.specs.Status.{WAIT, IWAT, INTQ, MHBS, stored, has, number, fifo, withFifo}

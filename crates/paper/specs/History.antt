@@ -6,7 +6,7 @@ use Prim.Native.Nat.{ℕ}
 use Rattle.board.specs.declared.numbers.Size.{Size}
 use Rattle.paper.specs.declared.call.Call.{Call}
 use Rattle.paper.specs.declared.answer.Answer.{Answer}
-use Rattle.paper.specs.Outcomes.{Outcome, effect}
+use Rattle.paper.specs.Outcomes.{effect}
 
 pub record Ran : Type 0 where
   pub answers : List Answer

@@ -6,25 +6,26 @@
 --   Ends a l o          a contract's one clause: the answer a and the bytes l are those of the outcome o
 -- Assumes nothing.
 use mathlib.Core.Path.{_≡_}
-use mathlib.Core.Bool.{Bool, cond}
+use mathlib.Core.Bool.{cond}
 use mathlib.Core.List.{List, [], _∷_}
 use Prim.Native.Nat.{ℕ}
 use lib.ListN.{replicate}
 use Rattle.links.specs.Queue.{firstOf}
 use Rattle.board.specs.declared.numbers.Size.{Size}
-use Rattle.board.specs.declared.status.Status.{Status}
-use Rattle.board.specs.declared.records.Task.{Task}
 use Rattle.board.specs.Status.{MHBS, has}
 use Rattle.board.specs.Board.{Board, total, boardOf, bytesOf, task}
 use Rattle.paper.specs.declared.call.Call.{Call}
-use Rattle.paper.specs.declared.call.Call.the-variants.{Install, PostInterrupt, Find, CancelTask, Claim, Prepare, Release, Send, SendAndWait, Resend, ResendAndWait, Forward, ForwardAndWait, Return, ReturnAndWait, Receive, ReceiveAndWait, CancelMessage, WaitForInterrupt}
+use Rattle.paper.specs.declared.call.Call.the-variants.{Install, PostInterrupt, Find, CancelTask, Claim, Prepare, Release, Send}
+use Rattle.paper.specs.declared.call.Call.the-variants.{SendAndWait, Resend, ResendAndWait, Forward, ForwardAndWait, Return}
+use Rattle.paper.specs.declared.call.Call.the-variants.{ReturnAndWait, Receive, ReceiveAndWait, CancelMessage, WaitForInterrupt}
 use Rattle.paper.specs.declared.answer.Refusal.{Refusal}
 use Rattle.paper.specs.declared.answer.Refusal.the-variants.{NothingToDeliver}
 use Rattle.paper.specs.declared.answer.Answer.{Answer}
 use Rattle.paper.specs.declared.answer.Answer.the-variants.{Accepted, Refused}
 use Rattle.paper.specs.Rules.{queue, emptyQueue, running}
 use Rattle.paper.specs.Changes.{clears, takeFirst}
-use Rattle.paper.specs.Effects.{send, resend, forward, giveBack, waits, cancelMessage, install, cancelTask, post, waitInterrupt, lowestFree, claim, release, prepare, find}
+use Rattle.paper.specs.Effects.{send, resend, forward, giveBack, waits, cancelMessage, install, cancelTask, post, waitInterrupt}
+use Rattle.paper.specs.Effects.{lowestFree, claim, release, prepare, find}
 use Rattle.paper.specs.Refusals.{no1, no2, row, Verdict, Go, Stop, lowest}
 
 -- ---- the answer and all bytes afterwards

@@ -11,18 +11,18 @@ use lib.ListN.{length}
 use lib.Dec.{eqb, ltb}
 use Rattle.links.specs.Queue.{firstOf, which}
 use Rattle.board.specs.declared.numbers.Size.{Size}
-use Rattle.board.specs.declared.status.Status.{Status}
-use Rattle.board.specs.declared.records.Task.{Task}
-use Rattle.board.specs.declared.records.Message.{Message}
-use Rattle.board.specs.declared.places.Place.{Place}
 use Rattle.board.specs.Numbers.{outside}
 use Rattle.board.specs.Status.{WAIT, IWAT, BIT5, INTQ, MHBS, TCBB, stored, has, number}
 use Rattle.board.specs.Places.{isHeldBy, isQueuedAt}
 use Rattle.board.specs.Board.{Board, total, task, message, place}
 use Rattle.paper.specs.declared.call.Call.{Call}
-use Rattle.paper.specs.declared.call.Call.the-variants.{Install, PostInterrupt, Find, CancelTask, Claim, Prepare, Release, Send, SendAndWait, Resend, ResendAndWait, Forward, ForwardAndWait, Return, ReturnAndWait, Receive, ReceiveAndWait, CancelMessage, WaitForInterrupt}
+use Rattle.paper.specs.declared.call.Call.the-variants.{Install, PostInterrupt, Find, CancelTask, Claim, Prepare, Release, Send}
+use Rattle.paper.specs.declared.call.Call.the-variants.{SendAndWait, Resend, ResendAndWait, Forward, ForwardAndWait, Return}
+use Rattle.paper.specs.declared.call.Call.the-variants.{ReturnAndWait, Receive, ReceiveAndWait, CancelMessage, WaitForInterrupt}
 use Rattle.paper.specs.declared.answer.Refusal.{Refusal}
-use Rattle.paper.specs.declared.answer.Refusal.the-variants.{WrongLength, RuleBroken, NobodyRuns, NoSuchMessage, NotHeld, NoSuchTask, BadPriority, NotInstallable, BadStatus, TaskBusy, NoneFree, NotQueued, NotItsSender, BadSender}
+use Rattle.paper.specs.declared.answer.Refusal.the-variants.{WrongLength, RuleBroken, NobodyRuns, NoSuchMessage, NotHeld, NoSuchTask}
+use Rattle.paper.specs.declared.answer.Refusal.the-variants.{BadPriority, NotInstallable, BadStatus, TaskBusy, NoneFree, NotQueued}
+use Rattle.paper.specs.declared.answer.Refusal.the-variants.{NotItsSender, BadSender}
 use Rattle.paper.specs.Rules.{present, emptyQueue, taskPrio, passes}
 use Rattle.paper.specs.Effects.{lowestFree}
 

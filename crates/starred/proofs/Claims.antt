@@ -9,7 +9,6 @@ use lib.ListN.{length, getD, set, replicate, length-append}
 use lib.Dec.{eqb}
 use borrow.Author.Tests.{ne-eqb}
 use Rattle.links.specs.Queue.{firstOf, consIf, which, each, lists}
-use Rattle.board.specs.declared.numbers.TaskNo.{TaskNo}
 use Rattle.board.specs.declared.records.Task.{Task}
 use Rattle.board.specs.declared.records.Message.{Message}
 use Rattle.board.specs.declared.places.Place.{Place}
@@ -27,7 +26,7 @@ use Rattle.paper.specs.Rules.{present, running, nextMessage, messageNumber, goo
 use Rattle.paper.specs.Effects.{lowestFree}
 use Rattle.paper.specs.Refusals.{no3, test, lowest}
 use Rattle.paper.specs.Outcomes.{Outcome, accepted, undispatched, dispatch, judge, called, effect}
-use Rattle.paper.specs.History.{Ran, run}
+use Rattle.paper.specs.History.{run}
 use Rattle.starred.specs.Table.{accepts, claimed}
 
 -- ---- the boards

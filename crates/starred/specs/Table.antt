@@ -7,11 +7,11 @@ use mathlib.Core.Path.{_≡_}
 use mathlib.Core.List.{List, [], _∷_, _++_, map}
 use Prim.Native.Nat.{ℕ, zero, suc}
 use lib.ListN.{replicate}
-use Rattle.board.specs.declared.records.Message.{Message}
 use Rattle.board.specs.Numbers.{small}
 use Rattle.board.specs.Board.{boardOf, message}
 use Rattle.paper.specs.declared.call.Call.{Call}
-use Rattle.paper.specs.declared.call.Call.the-variants.{Install, PostInterrupt, Claim, Prepare, Release, Send, SendAndWait, Forward, Receive, ReceiveAndWait, WaitForInterrupt}
+use Rattle.paper.specs.declared.call.Call.the-variants.{Install, PostInterrupt, Claim, Prepare, Release, Send, SendAndWait, Forward}
+use Rattle.paper.specs.declared.call.Call.the-variants.{Receive, ReceiveAndWait, WaitForInterrupt}
 use Rattle.paper.specs.Answers.{Handed, handed}
 use Rattle.paper.specs.Rules.{queue}
 use Rattle.paper.specs.Outcomes.{blank}
