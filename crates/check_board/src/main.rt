@@ -1,13 +1,13 @@
 // PROGRAM. A board from standard input, and what the check says of it in one line: it passes and who runs, or it is refused and why.
 use libc::STDIN_FILENO;
-use words::print::text;
-use words::verdict::Verdict;
-use words::verdict::judged;
-use words::verdict::tell_running;
+use telling::finding::Finding;
+use telling::finding::judged;
+use telling::finding::tell_running;
+use telling::print::text;
 
 fn tell(b: &[u8]) {
-    let verdict = judged(b);
-    let Verdict::Passes(k) = verdict else {
+    let found = judged(b);
+    let Finding::Passes(k) = found else {
         return;
     };
     text(b"passes the check; ");

@@ -16,8 +16,8 @@ use board::records::Message;
 use board::words::message_meant;
 use board::words::place_meant;
 use inner::tests::held_by;
-use words::print::decimal;
-use words::print::text;
+use telling::print::decimal;
+use telling::print::text;
 
 // What a person sees who points at the box.
 fn draw_details(m: u16, r: Message) {

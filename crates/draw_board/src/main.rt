@@ -25,8 +25,8 @@ use rows::TOP;
 use rows::foot;
 use rows::queue_rows;
 use rows::row_height;
-use words::verdict::Verdict;
-use words::verdict::judged;
+use telling::finding::Finding;
+use telling::finding::judged;
 
 // The tasks in queue order, each below the one before. A board that passes has no more than 32.
 fn draw_tasks(b: &[u8], runs: u16)
@@ -54,8 +54,8 @@ fn draw_tasks(b: &[u8], runs: u16)
 }
 
 fn draw(b: &[u8]) {
-    let verdict = judged(b);
-    let Verdict::Passes(runs) = verdict else {
+    let found = judged(b);
+    let Finding::Passes(runs) = found else {
         return;
     };
     // what passes is whole: the readers want to see it

@@ -7,18 +7,16 @@ use board::numbers::TaskNo;
 use board::priority::number;
 use board::records::Task;
 use board::status::Status;
-use words::print::decimal;
-use words::print::hex_word;
-use words::print::shown;
-use words::print::text;
-use words::state::DEBUG;
-use words::state::MROB;
-use words::state::State;
-use words::state::print_state;
-use words::state::state_of;
-use words::totals::tell_blocks;
-use words::totals::tell_installed;
-use words::verdict::tell_running;
+use telling::finding::tell_running;
+use telling::print::decimal;
+use telling::print::hex_word;
+use telling::print::shown;
+use telling::print::text;
+use telling::state::State;
+use telling::state::print_state;
+use telling::state::state_of;
+use telling::totals::tell_blocks;
+use telling::totals::tell_installed;
 
 fn draw_looks_of_tasks() {
     text(b"<style>\n");
@@ -122,8 +120,8 @@ fn draw_flag(s: Status, bit: u8, name: &[u8]) {
 fn draw_flags(s: Status) {
     text(b"<text class='small right' x='328' y='41'>");
     draw_flag(s, Status::INTQ, b" INTQ");
-    draw_flag(s, DEBUG, b" DEBUG");
-    draw_flag(s, MROB, b" MROB");
+    draw_flag(s, Status::DEBUG, b" DEBUG");
+    draw_flag(s, Status::MROB, b" MROB");
     text(b"</text>");
 }
 

@@ -9,7 +9,7 @@ use board::numbers::Size;
 use board::numbers::TaskMeant;
 use board::numbers::TaskNo;
 use board::places::Place;
-use words::totals::blocks;
+use telling::totals::blocks;
 
 // Where the first task is drawn.
 pub(crate) const TOP: u32 = 86;

@@ -14,9 +14,9 @@ use board::records::Message;
 use board::words::message_meant;
 use board::words::place_meant;
 use inner::tests::held_by;
-use words::print::decimal_in;
-use words::print::pad;
-use words::print::text;
+use telling::print::decimal_in;
+use telling::print::pad;
+use telling::print::text;
 
 // Where message n of a list goes: the first behind the label, every third below it, the others beside the one before, which left some
 // columns empty.

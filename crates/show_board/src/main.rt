@@ -17,19 +17,17 @@ use board::status::Status;
 use libc::STDIN_FILENO;
 use lists::show_held;
 use lists::show_queue;
-use words::print::decimal_in;
-use words::print::hex_word;
-use words::print::shown;
-use words::print::text;
-use words::state::DEBUG;
-use words::state::MROB;
-use words::state::print_state;
-use words::state::state_of;
-use words::totals::tell_blocks;
-use words::totals::tell_installed;
-use words::verdict::Verdict;
-use words::verdict::judged;
-use words::verdict::tell_running;
+use telling::finding::Finding;
+use telling::finding::judged;
+use telling::finding::tell_running;
+use telling::print::decimal_in;
+use telling::print::hex_word;
+use telling::print::shown;
+use telling::print::text;
+use telling::state::print_state;
+use telling::state::state_of;
+use telling::totals::tell_blocks;
+use telling::totals::tell_installed;
 
 fn show_totals(b: &[u8], runs: u16)
     requires { ⌜ total small ≤ length (now b) ⌝ }
@@ -60,8 +58,8 @@ fn show_flag(s: Status, bit: u8, meaning: &[u8]) {
 fn show_state(s: Status, runs: bool) {
     print_state(state_of(s, runs));
     show_flag(s, Status::INTQ, b"an interrupt is posted (INTQ)");
-    show_flag(s, DEBUG, b"being debugged (DEBUG)");
-    show_flag(s, MROB, b"main registers only (MROB)");
+    show_flag(s, Status::DEBUG, b"being debugged (DEBUG)");
+    show_flag(s, Status::MROB, b"main registers only (MROB)");
     text(b"\n");
 }
 
@@ -102,8 +100,8 @@ fn show_tasks(b: &[u8], runs: u16)
 }
 
 fn show(b: &[u8]) {
-    let verdict = judged(b);
-    let Verdict::Passes(runs) = verdict else {
+    let found = judged(b);
+    let Finding::Passes(runs) = found else {
         return;
     };
     // what passes is whole: the readers want to see it

@@ -1,3 +1,0 @@
-pub mod States
-pub mod Totals
-pub mod Verdicts

@@ -1,6 +1,0 @@
-// PROGRAMS. What the programs that a person reads share: the verdict of the check, the state of a task and the totals of a board in words,
-// and printing in columns. No contract can say what a write does; a printing function says how many columns it takes, which a table rests on.
-pub mod print;
-pub mod state;
-pub mod totals;
-pub mod verdict;
