@@ -58,8 +58,9 @@ int main(void)
         size_t n = (size_t)(head[0] + 256 * head[1]);
         uint8_t *board = area + GUARD;
         if (!read_full(before, n)) return 1;
-        memset(area, MARK, sizeof area);
+        memset(area, MARK, GUARD);
         memcpy(board, before, n);
+        memset(board + n, MARK, GUARD);
         station_answer a = answer_to(head, board, n);
         printf("%d %d %d %d", a.refusal, a.value, a.running, a.delivered);
         for (size_t i = 0; i < n; i++)
