@@ -30,6 +30,7 @@ use Rattle.paper.specs.Rules.{present, nextMessage, messageNumber, running}
 use Rattle.paper.specs.Changes.{withQueue}
 use Rattle.paper.specs.Effects.{woken, placeAt, ownPrio, addressed, send, resend, forward, giveBack, waits}
 use Rattle.paper.specs.Refusals.{Test, no3, no4, no5, no6, no7, ownRow, Go, lowest}
+use Rattle.linked.specs.Sound.{Pointers}
 use Rattle.linked.specs.Linked.{Numbered}
 use Rattle.linked.proofs.Running.{runner-says}
 use Rattle.kept.specs.Settled.{Byte, Word, Settled}
@@ -47,8 +48,23 @@ abbrev pub WithWait : Size → Board → List ℕ → ℕ → Board → (ℕ →
 WithWait z b order k a queues = Settled z a order queues × (has (task b k .stat) MHBS ≡ false → Settled z (waits k a) order queues)
 
 -- ---- a placement
+-- a message of the board that is in no queue, whoever has it
+pub record Loose (z : Size) (b : Board) (m : ℕ) : Type 0 where
+  pub unqueued : isQueued (place b m) ≡ false
+  pub numbered : Numbered (z .messages) m
+  pub pointers : Pointers z (message b m)
+
+-- a held one is
+pub held-loose : (z : Size) (b : Board) (order : List ℕ) (queues : ℕ → List ℕ) → Settled z b order queues → (m c : ℕ)
+    → place b m ≡ HeldBy (taskNo c) → Loose z b m
+held-loose z b order queues s m c e = record {
+  unqueued = ap isQueued e;
+  numbered = held-numbered z b order queues s m c e;
+  pointers = held-good z b order queues s m c e .0;
+}
+
 module _ (z : Size) (b : Board) (order : List ℕ) (queues : ℕ → List ℕ) (sizes : Sizes z) (settled : Settled z b order queues)
-    (m r c : ℕ) (held : place b m ≡ HeldBy (taskNo c)) (there : present b r ≡ true) (low : number (message b m .prio) ≢ 127) where
+    (m r : ℕ) (loose : Loose z b m) (there : present b r ≡ true) (low : number (message b m .prio) ≢ 127) where
   abbrev p : ℕ
   p = message b m .prio
 
@@ -76,13 +92,12 @@ module _ (z : Size) (b : Board) (order : List ℕ) (queues : ℕ → List ℕ) (
       (requeued-is b r q)
 
   out : Out m (queues r)
-  out = not-in-out m (queues r) (λ i. unqueued-out z b order queues settled m (ap isQueued held) r receiver m i refl)
+  out = not-in-out m (queues r) (λ i. unqueued-out z b order queues settled m (loose .unqueued) r receiver m i refl)
 
   place-move : Moved z b r q m w (QueuedAt (taskNo r))
   place-move =
       let l = settled .linked .messages r receiver in
-      let n : Numbered (z .messages) m = held-numbered z b order queues settled m c held in
-      let k = held-good z b order queues settled m c held in
+      let n : Numbered (z .messages) m = loose .numbered in
       let f = settled .fits .message m .prio in record {
         there = there;
         once = once-insert goes m (queues r) out (chain-once (nextMessage b) (task b r .mptr) (queues r) (l .chain));
@@ -92,9 +107,9 @@ module _ (z : Size) (b : Board) (order : List ℕ) (queues : ℕ → List ℕ) (
           λ e. in-insert goes m y (queues r) .1 (inr (l .exact y .1 e)),
         );
         itself = ((λ i. refl), λ e. in-insert goes m m (queues r) .1 (inl refl));
-        elsewhere = λ j d. ((λ e. true≢false (sym (ap isQueued e) ∙ ap isQueued held)), λ e. d (omega (arith, ap placeByte e)));
+        elsewhere = λ j d. ((λ e. true≢false (sym (ap isQueued e) ∙ loose .unqueued)), λ e. d (omega (arith, ap placeByte e)));
         numbered = n;
-        pointers = k .0;
+        pointers = loose .pointers;
         link = λ i. refl;
         priority = number-withFifo p;
         fits = λ t. record { stat = t .stat; prio = withFifo-small p f; link = t .link; rptr = t .rptr; sptr = t .sptr };
@@ -103,11 +118,11 @@ module _ (z : Size) (b : Board) (order : List ℕ) (queues : ℕ → List ℕ) (
             (record { receiver = g .receiver; sender = g .sender }, fifo-withFifo p, omega arith, there);
       }
 
-  -- a held message goes into the queue of a present task, where its priority puts it
+  -- it goes into the queue of a present task, where its priority puts it
   pub place-settled : Settled z (placeAt z b m r) order (queuesAfter b queues (IntoQueue m (message b m .prio) r))
   place-settled =
       let d = moved-settled z b order queues sizes settled r q m w (QueuedAt (taskNo r)) place-move in
-      let n = rw (← settled .fits .places) at (held-numbered z b order queues settled m c held) in
+      let n = rw (← settled .fits .places) at (loose .numbered) in
       rw place-board (woken-settled z after order (changed queues r q) r (task b r .mptr ≡ 0) d
       (queued-starts z after order (changed queues r q) (d .but .linked) r m receiver (place-put b m (QueuedAt (taskNo r)) n)))
 
@@ -208,9 +223,10 @@ module _ (z : Size) (b : Board) (order : List ℕ) (queues : ℕ → List ℕ) (
       let c : ℕ = running z b in
       let (n, held, there, h) = sender-passed m r [] g in
       let s = runner-says z b n in
-      subst (WithWait z b order c (send z b c m r)) (addressed-queue z b order queues settled m r c held (task-numbered z b order queues settled r there))
-      (place-waits z (addressed b c m r) order queues sizes
-      (addressed-settled z b order queues sizes settled m r c held there (s .0)) m r c held there
+      let to = addressed-settled z b order queues sizes settled m r c held there (s .0) in
+      subst (WithWait z b order c (send z b c m r))
+      (addressed-queue z b order queues settled m r c held (task-numbered z b order queues settled r there))
+      (place-waits z (addressed b c m r) order queues sizes to m r (held-loose z (addressed b c m r) order queues to m c held) there
       (addressed-low z b order queues sizes settled m r c held there (s .0)) c s)
 
   -- forward: placed as it is, for refusal 7 has passed
@@ -218,7 +234,7 @@ module _ (z : Size) (b : Board) (order : List ℕ) (queues : ℕ → List ℕ) (
       → WithWait z b order c (forward z b m r) (queuesAfter b queues (IntoQueue m (message b m .prio) r))
   forward-settled m r g =
       let (n, held, there, h) = sender-passed m r (no7 b m ∷ []) g in
-      place-waits z b order queues sizes settled m r (running z b) held there
+      place-waits z b order queues sizes settled m r (held-loose z b order queues settled m (running z b) held) there
       (eqb-false (number (message b m .prio)) 127 (go-passed (no7 b m) [] h .0)) (running z b) (runner-says z b n)
 
   -- resend: at the task that RPTR names
