@@ -81,11 +81,11 @@ small-task t f =
     let n = word-halves (t .name) (f .name) in
     (f .stat, (f .prio, (l .0, (l .1, (m .0, (m .1, (s .0, (s .1, (n .0, (n .1, tt))))))))))
 
-small-message : (r : Message) → FitsMessage r → Small (messageBytes r)
-small-message r f =
-    let l = word-halves (r .link) (f .link) in
-    let p = word-halves (r .rptr) (f .rptr) in
-    let s = word-halves (r .sptr) (f .sptr) in
+small-message : (u : Message) → FitsMessage u → Small (messageBytes u)
+small-message u f =
+    let l = word-halves (u .link) (f .link) in
+    let p = word-halves (u .rptr) (f .rptr) in
+    let s = word-halves (u .sptr) (f .sptr) in
     (f .stat, (f .prio, (l .0, (l .1, (p .0, (p .1, (s .0, (s .1, tt))))))))
 
 -- ---- from the board to its bytes

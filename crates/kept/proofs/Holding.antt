@@ -79,24 +79,24 @@ module _ (z : Size) (b : Board) (order : List ℕ) (queues : ℕ → List ℕ) (
     held-good = subst (PlaceGood z b m) e (s .places m held-numbered)
 
     -- ---- its record written
-    module _ (r : Message) (f : FitsMessage r) (p : Pointers z r) (l : r .link ≡ 0) where
+    module _ (u : Message) (f : FitsMessage u) (p : Pointers z u) (l : u .link ≡ 0) where
       abbrev d : Board
-      d = withMessage b m r
+      d = withMessage b m u
 
       same-queued : (k : ℕ) → Numbered (z .tasks) k → (y : ℕ) → In y (queues k) → message d y ≡ message b y
-      same-queued k h y i = message-other b m y r (unqueued-out (ap isQueued e) k h y i)
+      same-queued k h y i = message-other b m y u (unqueued-out (ap isQueued e) k h y i)
 
       good-new : PlaceGood z d m (HeldBy (taskNo c))
-      good-new = rw (message-put b m r (rw (← s .fits .messages) at held-numbered)) (p, l, held-good .2)
+      good-new = rw (message-put b m u (rw (← s .fits .messages) at held-numbered)) (p, l, held-good .2)
 
       good-each : (j : ℕ) → Numbered (z .messages) j → Dec (j ≡ m) → PlaceGood z d j (place b j)
       good-each j h (yes q) = subst (λ (x : ℕ). PlaceGood z d x (place b x)) (sym q) (subst (PlaceGood z d m) (sym e) good-new)
-      good-each j h (no n) = good-stays z b d j (place b j) (message-other b m j r n) (λ k w t. t) (s .places j h)
+      good-each j h (no n) = good-stays z b d j (place b j) (message-other b m j u n) (λ k w t. t) (s .places j h)
 
       -- LINK 0, and task numbers for RPTR and SPTR
-      pub settled-record : Settled z (withMessage b m r) order queues
+      pub settled-record : Settled z (withMessage b m u) order queues
       settled-record = record {
-        fits = fits-message z b (s .fits) m r f;
+        fits = fits-message z b (s .fits) m u f;
         byte1 = s .byte1;
         zeros = s .zeros;
         records = s .records;

@@ -88,7 +88,7 @@ module _ (b : Board) (q : List ℕ) where
   same-queue x j l =
       let e : Board = withOrder b q in
       listing-stays (nextMessage b) (nextMessage e) (messageNumber b) (messageNumber e) x l _ _
-      (λ y i. ap (λ (r : Message). r .link) (same-message y)) (λ y i. ap (λ (r : Message). number (r .prio)) (same-message y))
+      (λ y i. ap (λ (u : Message). u .link) (same-message y)) (λ y i. ap (λ (u : Message). number (u .prio)) (same-message y))
       (λ y. ((λ p. same-place y ∙ p), λ p. sym (same-place y) ∙ p))
 
 -- ---- one task written and the task queue relinked

@@ -72,8 +72,8 @@ good-queued : (z : Size) (b b′ : Board) (y : ℕ) (t : TaskNo) → withLink (m
     → ((k : ℕ) → present b′ k ≡ present b k) → PlaceGood z b y (QueuedAt t) → PlaceGood z b′ y (QueuedAt t)
 good-queued z b b′ y t e h (p, f, l, g) = (
   pointers-alike z (message b y) (message b′ y) e p,
-  ap (λ (r : Message). fifo (r .prio)) e ∙ f,
-  subst (λ (r : Message). r .prio < 0xFF) (sym e) l,
+  ap (λ (u : Message). fifo (u .prio)) e ∙ f,
+  subst (λ (u : Message). u .prio < 0xFF) (sym e) l,
   h (t .0) ∙ g,
 )
 

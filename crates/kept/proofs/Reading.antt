@@ -71,12 +71,12 @@ task-alike f b k j t e = nth-alike f noTask (b .tasks) k j t e
 
 -- ---- one message written, one place written
 -- a message reads back
-pub message-put : (b : Board) (m : ℕ) (r : Message) → Numbered (length (b .messages)) m → message (withMessage b m r) m ≡ r
-message-put b m r h = nth-put noMessage (b .messages) m r (h .0) (h .1)
+pub message-put : (b : Board) (m : ℕ) (u : Message) → Numbered (length (b .messages)) m → message (withMessage b m u) m ≡ u
+message-put b m u h = nth-put noMessage (b .messages) m u (h .0) (h .1)
 
 -- others read as before
-pub message-other : (b : Board) (m j : ℕ) (r : Message) → j ≢ m → message (withMessage b m r) j ≡ message b j
-message-other b m j r h = nth-put-other noMessage (b .messages) m j r h
+pub message-other : (b : Board) (m j : ℕ) (u : Message) → j ≢ m → message (withMessage b m u) j ≡ message b j
+message-other b m j u h = nth-put-other noMessage (b .messages) m j u h
 
 -- a place reads back
 pub place-put : (b : Board) (m : ℕ) (p : Place) → Numbered (length (b .places)) m → place (withPlace b m p) m ≡ p
@@ -129,16 +129,16 @@ module _ (z : Size) (b : Board) (f : Fits z b) where
   }
 
   -- a message written
-  pub fits-message : (m : ℕ) (r : Message) → FitsMessage r → Fits z (withMessage b m r)
-  fits-message m r h = record {
+  pub fits-message : (m : ℕ) (u : Message) → FitsMessage u → Fits z (withMessage b m u)
+  fits-message m u h = record {
     first = f .first;
     byte1 = f .byte1;
     zeros = f .zeros;
     tasks = f .tasks;
-    messages = length-put (b .messages) m r ∙ f .messages;
+    messages = length-put (b .messages) m u ∙ f .messages;
     places = f .places;
     task = f .task;
-    message = λ j. nth-cases FitsMessage noMessage (b .messages) m j r (λ e. h) (f .message j);
+    message = λ j. nth-cases FitsMessage noMessage (b .messages) m j u (λ e. h) (f .message j);
     place = f .place;
   }
 

@@ -53,8 +53,8 @@ says-goodTask t = says-or (says-zeroTask t) (says-goodHead t)
 
 -- ---- R4: a message and its place
 -- eight zero bytes
-pub says-zeroMessage : (r : Message) → Says (zeroMessage r) (r ≡ noMessage)
-says-zeroMessage r = (
+pub says-zeroMessage : (u : Message) → Says (zeroMessage u) (u ≡ noMessage)
+says-zeroMessage u = (
   (λ e.
       let ((((s, p), l), r), n) = (says-zero & says-zero & says-zero & says-zero & says-zero) .0 e in
       λ i. record { stat = s i; prio = p i; link = l i; rptr = r i; sptr = n i }),
@@ -62,8 +62,8 @@ says-zeroMessage r = (
 )
 
 -- RPTR and SPTR
-says-goodPointers : (z : Size) (r : Message) → Says (goodPointers z r) (Pointers z r)
-says-goodPointers z r =
+says-goodPointers : (z : Size) (u : Message) → Says (goodPointers z u) (Pointers z u)
+says-goodPointers z u =
     Iff·trans (says-leb & says-leb) ((λ (r, s). record { receiver = r; sender = s }), λ p. (p .receiver, p .sender))
 
 -- a message, by its place

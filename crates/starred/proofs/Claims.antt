@@ -99,7 +99,7 @@ free-or-held ps (Nowhere p) h = absurd h
 
 rule4-holds : (ps : List Place) → Few ps → (m : ℕ) → rule4At small (lone ps) m ≡ true
 rule4-holds ps h m =
-    ap (λ (r : Message). goodMessage small (present (lone ps)) r (nth Free ps m)) (zero-message m)
+    ap (λ (u : Message). goodMessage small (present (lone ps)) u (nth Free ps m)) (zero-message m)
     ∙ free-or-held ps (nth Free ps m) (few-place ps h m)
 
 not-queued : (k : ℕ) (p : Place) → FewAt p → isQueuedAt k p ≡ false
