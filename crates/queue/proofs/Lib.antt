@@ -1,7 +1,2 @@
-pub mod Effects
-pub mod Queues
-pub mod Order
-mod Links
-mod Behind
-mod Stores
 mod Seeks
+mod Stores

@@ -2,81 +2,73 @@
 ghost use mathlib.Core.Path.{_≡_};
 ghost use Prim.Native.Nat.{_≤_};
 ghost use lib.ListN.{length};
+ghost use Rattle.board.specs.Numbers.{numberOfTask, numberOfMessage};
 ghost use Rattle.board.specs.Board.{total};
-ghost use Rattle.queue.specs.Moves.{setsIn, clearsIn, linkTaskIn, linkMessageIn, mptrIn, holdIn};
-use board::bytes::message_at;
-use board::bytes::put_message;
-use board::bytes::put_place;
-use board::bytes::put_task;
-use board::bytes::task_at;
+ghost use Rattle.stores.specs.Changes as stores;
 use board::numbers::MessageMeant;
 use board::numbers::MsgNo;
 use board::numbers::Size;
 use board::numbers::TaskMeant;
 use board::numbers::TaskNo;
 use board::places::Place;
+use lent::bytes::message_at;
+use lent::bytes::put_message;
+use lent::bytes::put_place;
+use lent::bytes::put_task;
+use lent::bytes::task_at;
 
 // A bit of task k's STAT set.
-pub fn set_bit(z: Size, b: &mut [u8], k: TaskNo, bit: u8)
-    requires { ⌜ total z ≤ length (now b) ⌝ }
-    ensures { λ _. ⌜ now (b .exit) ≡ setsIn z (now (b .entry)) (k .0) bit ⌝ }
+pub fn set_bit(z: Size, l: &mut [u8], k: TaskNo, bit: u8)
+    requires { ⌜ total z ≤ length (now l) ⌝ }
+    ensures { λ _. ⌜ now (l .exit) ≡ stores.sets z (now (l .entry)) (k .0) bit ⌝ }
 {
-    let t = task_at(z, b, k);
+    let t = task_at(z, l, k);
     let s = t.stat;
-    put_task(z, b, k, t.with_stat(s.with(bit)));
+    put_task(z, l, k, t.with_stat(s.with(bit)));
 }
 
 // A bit of task k's STAT cleared.
-pub fn clear_bit(z: Size, b: &mut [u8], k: TaskNo, bit: u8)
-    requires { ⌜ total z ≤ length (now b) ⌝ }
-    ensures { λ _. ⌜ now (b .exit) ≡ clearsIn z (now (b .entry)) (k .0) bit ⌝ }
+pub fn clear_bit(z: Size, l: &mut [u8], k: TaskNo, bit: u8)
+    requires { ⌜ total z ≤ length (now l) ⌝ }
+    ensures { λ _. ⌜ now (l .exit) ≡ stores.clears z (now (l .entry)) (k .0) bit ⌝ }
 {
-    let t = task_at(z, b, k);
+    let t = task_at(z, l, k);
     let s = t.stat;
-    put_task(z, b, k, t.with_stat(s.without(bit)));
+    put_task(z, l, k, t.with_stat(s.without(bit)));
 }
 
 // MPTR of task k is m.
-pub fn set_mptr(z: Size, b: &mut [u8], k: TaskNo, m: u16)
-    requires { ⌜ total z ≤ length (now b) ⌝ }
-    ensures { λ _. ⌜ now (b .exit) ≡ mptrIn z (now (b .entry)) (k .0) m ⌝ }
+pub fn set_mptr(z: Size, l: &mut [u8], k: TaskNo, m: MessageMeant)
+    requires { ⌜ total z ≤ length (now l) ⌝ }
+    ensures { λ _. ⌜ now (l .exit) ≡ stores.withMptr z (now (l .entry)) (k .0) (numberOfMessage m) ⌝ }
 {
-    let t = task_at(z, b, k);
-    put_task(z, b, k, t.with_mptr_word(m));
+    let t = task_at(z, l, k);
+    put_task(z, l, k, t.with_mptr(m));
 }
 
-// The task that w means is linked to the next; nothing where it means none.
-pub fn link_task(z: Size, b: &mut [u8], w: u16, next: u16)
-    requires { ⌜ total z ≤ length (now b) ⌝ }
-    ensures { λ _. ⌜ now (b .exit) ≡ linkTaskIn z (now (b .entry)) w next ⌝ }
+// LINK of task k is the next.
+pub fn link_task(z: Size, l: &mut [u8], k: TaskNo, next: TaskMeant)
+    requires { ⌜ total z ≤ length (now l) ⌝ }
+    ensures { λ _. ⌜ now (l .exit) ≡ stores.linkTask z (now (l .entry)) (k .0) (numberOfTask next) ⌝ }
 {
-    let meant = TaskNo::meant(z, w);
-    let TaskMeant::Task(k) = meant else {
-        return;
-    };
-    let t = task_at(z, b, k);
-    put_task(z, b, k, t.with_link_word(next));
+    let t = task_at(z, l, k);
+    put_task(z, l, k, t.with_link(next));
 }
 
-// The message that w means is linked to the next; nothing where it means none.
-pub fn link_message(z: Size, b: &mut [u8], w: u16, next: u16)
-    requires { ⌜ total z ≤ length (now b) ⌝ }
-    ensures { λ _. ⌜ now (b .exit) ≡ linkMessageIn z (now (b .entry)) w next ⌝ }
+// LINK of message m is the next.
+pub fn link_message(z: Size, l: &mut [u8], m: MsgNo, next: MessageMeant)
+    requires { ⌜ total z ≤ length (now l) ⌝ }
+    ensures { λ _. ⌜ now (l .exit) ≡ stores.linkMessage z (now (l .entry)) (m .0) (numberOfMessage next) ⌝ }
 {
-    let meant = MsgNo::meant(z, w);
-    let MessageMeant::Message(m) = meant else {
-        return;
-    };
-    let r = message_at(z, b, m);
-    put_message(z, b, m, r.with_link_word(next));
+    let u = message_at(z, l, m);
+    put_message(z, l, m, u.with_link(next));
 }
 
 // Task c holds message m, with LINK 0.
-pub fn hold(z: Size, b: &mut [u8], c: TaskNo, m: MsgNo)
-    requires { ⌜ total z ≤ length (now b) ⌝ }
-    ensures { λ _. ⌜ now (b .exit) ≡ holdIn z (now (b .entry)) (c .0) (m .0) ⌝ }
+pub fn hold(z: Size, l: &mut [u8], c: TaskNo, m: MsgNo)
+    requires { ⌜ total z ≤ length (now l) ⌝ }
+    ensures { λ _. ⌜ now (l .exit) ≡ stores.hold z (now (l .entry)) (c .0) (m .0) ⌝ }
 {
-    let r = message_at(z, b, m);
-    put_message(z, b, m, r.with_link_word(0));
-    put_place(z, b, m, Place::HeldBy(c));
+    link_message(z, l, m, MessageMeant::NoMessage);
+    put_place(z, l, m, Place::HeldBy(c));
 }

@@ -1,22 +1,33 @@
-// The walk that looks for a place in a queue: where a priority goes, or where a record stands. It follows at most the paper's number of
+// The walk that looks for a spot in a queue: where a priority goes, or where a record stands. It follows at most the paper's number of
 // links, whatever the bytes are.
 ghost use mathlib.Core.Path.{_≡_};
 ghost use Prim.Native.Nat.{_≤_};
 ghost use lib.ListN.{length};
 ghost use Rattle.board.specs.Board.{total};
 ghost use Rattle.links.specs.Queue.{goesBefore};
-ghost use Rattle.links.specs.Seek.{Spot};
-ghost use Rattle.queue.specs.Moves.{spotFor, spotOf, spotForTask, spotOfTask};
+ghost use Rattle.stores.specs.Moves.{spotFor, spotOf, spotForTask, spotOfTask};
+ghost use Rattle.queue.specs.Spots.{messageSpot, taskSpot};
+use board::numbers::MessageMeant;
+use board::numbers::MsgNo;
 use board::numbers::Size;
+use board::numbers::TaskMeant;
+use board::numbers::TaskNo;
 use board::priority::number;
-use board::words::link_meant;
-use board::words::prio_meant;
-use board::words::task_meant;
+use lent::bytes::first_task;
+use lent::bytes::next_message;
+use lent::bytes::prio_of;
+use lent::bytes::task_at;
 
-// The last record passed and the record stopped at, 0 for none.
-pub struct Found {
-    pub prev: u16,
-    pub cur: u16,
+// The last message passed and the message stopped at, if any.
+pub struct MessageSpot {
+    pub prev: MessageMeant,
+    pub cur: MessageMeant,
+}
+
+// The last task passed and the task stopped at, if any.
+pub struct TaskSpot {
+    pub prev: TaskMeant,
+    pub cur: TaskMeant,
 }
 
 // One of priority number p goes before one of number x: LIFO before its equals, FIFO behind them.
@@ -29,127 +40,129 @@ pub fn goes_before(fifo: bool, p: u8, x: u8) -> bool
     p <= x
 }
 
-// Where a message of priority number p goes in the queue that starts at x.
-pub fn place_for_message(z: Size, b: &[u8], x: u16, fifo: bool, p: u8) -> Found
-    requires { ⌜ total z ≤ length (now b) ⌝ }
-    ensures { λ res. ⌜ record { prev = res .prev; cur = res .cur } ≡ spotFor z (now (b .entry)) x fifo p ⌝ }
+// Where a message of priority number p goes in the queue of r.
+pub fn spot_for_message(z: Size, l: &[u8], r: TaskNo, fifo: bool, p: u8) -> MessageSpot
+    requires { ⌜ total z ≤ length (now l) ⌝ }
+    ensures { λ res. ⌜ res ≡ messageSpot z (spotFor z (now (l .entry)) (r .0) fifo p) ⌝ }
 {
+    let t = task_at(z, l, r);
     let mut left = z.messages;
-    let mut prev: u16 = 0;
-    let mut cur = x;
+    let mut prev = MessageMeant::NoMessage;
+    let mut cur = t.first(z);
     while 0 < left {
-        if cur == 0 {
-            return Found {
+        let MessageMeant::Message(m) = cur else {
+            return MessageSpot {
                 prev: prev,
                 cur: cur,
             };
-        }
-        if goes_before(fifo, p, number(prio_meant(z, b, cur))) {
-            return Found {
+        };
+        if goes_before(fifo, p, number(prio_of(z, l, m))) {
+            return MessageSpot {
                 prev: prev,
                 cur: cur,
             };
         }
         prev = cur;
-        cur = link_meant(z, b, cur);
+        cur = next_message(z, l, m);
         left -= 1;
     }
-    Found {
+    MessageSpot {
         prev: prev,
         cur: cur,
     }
 }
 
-// Where the message m stands in the queue that starts at x.
-pub fn place_of_message(z: Size, b: &[u8], x: u16, m: u16) -> Found
-    requires { ⌜ total z ≤ length (now b) ⌝ }
-    ensures { λ res. ⌜ record { prev = res .prev; cur = res .cur } ≡ spotOf z (now (b .entry)) x m ⌝ }
+// Where the message x stands in the queue of r.
+pub fn spot_of_message(z: Size, l: &[u8], r: TaskNo, x: MsgNo) -> MessageSpot
+    requires { ⌜ total z ≤ length (now l) ⌝ }
+    ensures { λ res. ⌜ res ≡ messageSpot z (spotOf z (now (l .entry)) (r .0) (x .0)) ⌝ }
 {
+    let t = task_at(z, l, r);
     let mut left = z.messages;
-    let mut prev: u16 = 0;
-    let mut cur = x;
+    let mut prev = MessageMeant::NoMessage;
+    let mut cur = t.first(z);
     while 0 < left {
-        if cur == 0 {
-            return Found {
+        let MessageMeant::Message(m) = cur else {
+            return MessageSpot {
                 prev: prev,
                 cur: cur,
             };
-        }
-        if cur == m {
-            return Found {
+        };
+        if m.number() == x.number() {
+            return MessageSpot {
                 prev: prev,
                 cur: cur,
             };
         }
         prev = cur;
-        cur = link_meant(z, b, cur);
+        cur = next_message(z, l, m);
         left -= 1;
     }
-    Found {
+    MessageSpot {
         prev: prev,
         cur: cur,
     }
 }
 
-// Where a task of priority number p goes in the task queue that starts at x: behind its equals.
-pub fn place_for_task(z: Size, b: &[u8], x: u16, p: u8) -> Found
-    requires { ⌜ total z ≤ length (now b) ⌝ }
-    ensures { λ res. ⌜ record { prev = res .prev; cur = res .cur } ≡ spotForTask z (now (b .entry)) x p ⌝ }
+// Where a task of priority number p goes in the task queue: behind its equals.
+pub fn spot_for_task(z: Size, l: &[u8], p: u8) -> TaskSpot
+    requires { ⌜ total z ≤ length (now l) ⌝ }
+    ensures { λ res. ⌜ res ≡ taskSpot z (spotForTask z (now (l .entry)) p) ⌝ }
 {
     let mut left = z.messages;
-    let mut prev: u16 = 0;
-    let mut cur = x;
+    let mut prev = TaskMeant::NoTask;
+    let mut cur = first_task(z, l);
     while 0 < left {
-        if cur == 0 {
-            return Found {
+        let TaskMeant::Task(k) = cur else {
+            return TaskSpot {
                 prev: prev,
                 cur: cur,
             };
-        }
-        let t = task_meant(z, b, cur);
+        };
+        let t = task_at(z, l, k);
         if goes_before(true, p, number(t.prio)) {
-            return Found {
+            return TaskSpot {
                 prev: prev,
                 cur: cur,
             };
         }
         prev = cur;
-        cur = t.link;
+        cur = t.next(z);
         left -= 1;
     }
-    Found {
+    TaskSpot {
         prev: prev,
         cur: cur,
     }
 }
 
-// Where the task k stands in the task queue that starts at x.
-pub fn place_of_task(z: Size, b: &[u8], x: u16, k: u16) -> Found
-    requires { ⌜ total z ≤ length (now b) ⌝ }
-    ensures { λ res. ⌜ record { prev = res .prev; cur = res .cur } ≡ spotOfTask z (now (b .entry)) x k ⌝ }
+// Where the task x stands in the task queue.
+pub fn spot_of_task(z: Size, l: &[u8], x: TaskNo) -> TaskSpot
+    requires { ⌜ total z ≤ length (now l) ⌝ }
+    ensures { λ res. ⌜ res ≡ taskSpot z (spotOfTask z (now (l .entry)) (x .0)) ⌝ }
 {
     let mut left = z.messages;
-    let mut prev: u16 = 0;
-    let mut cur = x;
+    let mut prev = TaskMeant::NoTask;
+    let mut cur = first_task(z, l);
     while 0 < left {
-        if cur == 0 {
-            return Found {
+        let TaskMeant::Task(k) = cur else {
+            return TaskSpot {
+                prev: prev,
+                cur: cur,
+            };
+        };
+        if k.number() == x.number() {
+            return TaskSpot {
                 prev: prev,
                 cur: cur,
             };
         }
-        if cur == k {
-            return Found {
-                prev: prev,
-                cur: cur,
-            };
-        }
-        let t = task_meant(z, b, cur);
+        let t = task_at(z, l, k);
         prev = cur;
-        cur = t.link;
+        cur = t.next(z);
         left -= 1;
     }
-    Found {
+    TaskSpot {
         prev: prev,
         cur: cur,
     }

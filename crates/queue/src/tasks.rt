@@ -2,50 +2,51 @@
 ghost use mathlib.Core.Path.{_≡_};
 ghost use Prim.Native.Nat.{_≤_};
 ghost use lib.ListN.{length};
+ghost use Rattle.board.specs.Numbers.{numberOfTask};
 ghost use Rattle.board.specs.Board.{total};
-ghost use Rattle.queue.specs.Moves.{behindTaskIn, orderInto, orderOut};
+ghost use Rattle.stores.specs.Moves.{behindTask, orderInto, orderOut};
 use crate::changes::link_task;
-use crate::seek::place_for_task;
-use crate::seek::place_of_task;
-use board::bytes::first_task;
-use board::bytes::put_first_task;
-use board::bytes::put_task;
-use board::bytes::task_at;
+use crate::seek::spot_for_task;
+use crate::seek::spot_of_task;
 use board::numbers::Size;
+use board::numbers::TaskMeant;
 use board::numbers::TaskNo;
 use board::priority::number;
 use board::records::Task;
+use lent::bytes::put_first_task;
+use lent::bytes::put_task;
+use lent::bytes::task_at;
 
-// What stands behind prev in the task queue is x: its first where prev is 0.
-fn put_behind(z: Size, b: &mut [u8], prev: u16, x: u16)
-    requires { ⌜ total z ≤ length (now b) ⌝ }
-    ensures { λ _. ⌜ now (b .exit) ≡ behindTaskIn z (now (b .entry)) prev x ⌝ }
+// What stands behind prev in the task queue is x: its first where prev is none.
+fn put_behind(z: Size, l: &mut [u8], prev: TaskMeant, x: TaskMeant)
+    requires { ⌜ total z ≤ length (now l) ⌝ }
+    ensures { λ _. ⌜ now (l .exit) ≡ behindTask z (now (l .entry)) prev (numberOfTask x) ⌝ }
 {
-    if prev == 0 {
-        put_first_task(b, (x % 256) as u8);
-    } else {
-        link_task(z, b, prev, x);
+    match prev {
+        TaskMeant::Task(k) => link_task(z, l, k, x),
+        TaskMeant::NoTask => put_first_task(l, x),
     }
 }
 
 // Task k becomes the record t, which goes into the task queue behind its equals.
-pub fn into_order(z: Size, b: &mut [u8], k: TaskNo, t: Task)
-    requires { ⌜ total z ≤ length (now b) ⌝ }
-    ensures { λ _. ⌜ now (b .exit) ≡ orderInto z (now (b .entry)) (k .0) t ⌝ }
+pub fn into_order(z: Size, l: &mut [u8], k: TaskNo, t: Task)
+    requires { ⌜ total z ≤ length (now l) ⌝ }
+    ensures { λ _. ⌜ now (l .exit) ≡ orderInto z (now (l .entry)) (k .0) t ⌝ }
 {
-    let x = first_task(b) as u16;
-    let at = place_for_task(z, b, x, number(t.prio));
-    put_task(z, b, k, t.with_link_word(at.cur));
-    put_behind(z, b, at.prev, k.number());
+    let at = spot_for_task(z, l, number(t.prio));
+    let prev = at.prev;
+    let cur = at.cur;
+    put_task(z, l, k, t.with_link(cur));
+    put_behind(z, l, prev, TaskMeant::Task(k));
 }
 
 // Task k is taken out of the task queue.
-pub fn out_of_order(z: Size, b: &mut [u8], k: TaskNo)
-    requires { ⌜ total z ≤ length (now b) ⌝ }
-    ensures { λ _. ⌜ now (b .exit) ≡ orderOut z (now (b .entry)) (k .0) ⌝ }
+pub fn out_of_order(z: Size, l: &mut [u8], k: TaskNo)
+    requires { ⌜ total z ≤ length (now l) ⌝ }
+    ensures { λ _. ⌜ now (l .exit) ≡ orderOut z (now (l .entry)) (k .0) ⌝ }
 {
-    let t = task_at(z, b, k);
-    let x = first_task(b) as u16;
-    let at = place_of_task(z, b, x, k.number());
-    put_behind(z, b, at.prev, t.link);
+    let at = spot_of_task(z, l, k);
+    let prev = at.prev;
+    let t = task_at(z, l, k);
+    put_behind(z, l, prev, t.next(z));
 }

@@ -1,28 +1,20 @@
 -- `queue::changes::link_task` meets its contract.
-use mathlib.Core.Path.{sym, _∙_}
 use denote.Ref.{now}
-use Rattle.queue.proofs.Stores.{task-linked, link-task-meant, link-task-none}
 use borrow.Author.Needs.{needs}
+use Rattle.board.specs.Numbers.{numberOfTask}
+use Rattle.queue.proofs.Stores.{task-linked}
 use Rattle.queue.proofs.changes.link_task.Statement.{statement}
 use Rattle.queue.proofs.changes.link_task.Tie as tie
 
 returns : tie.Need-returns
 returns c =
-    let a = c .before .before .before .before .args in
-    link-task-none (a .z) (now (a .b)) (a .w) (a .next)
-    (sym (c .before .before .meant .ensures) ∙ c .enum-told .given .1)
-
-returns-2 : tie.Need-returns-2
-returns-2 c =
     let r = c .before .before .before in
-    let s = r .before .before .before .before .before in
-    let a = s .before .before .before .before .args in
-    link-task-meant (a .z) (now (a .b)) (a .w) (a .next) (s .meant2 .given .0 .0) _
-    (sym (s .before .before .meant .ensures) ∙ s .meant2 .given .1)
-    (task-linked (a .z) (now (a .b)) (s .meant2 .given .0 .0 .0) (r .before .before .task-at .result) (r .with-link-word .result) _ (r .before .before .task-at .ensures) (c .before .before .put-task .ensures) (a .next) (r .with-link-word .ensures))
+    let t = r .before .before in
+    let a = t .before .before .before .args in
+    task-linked (a .z) (now (a .l)) (a .k .0) (t .task-at .result) (r .with-link .result) _ (t .task-at .ensures)
+    (c .before .before .put-task .ensures) (numberOfTask (a .next)) (r .with-link .ensures)
 
 pub link-task-spec : {M : Type 1} → statement M
 link-task-spec =
     tie.close
-    (tie.spec (λ c κs. search needs) (λ c. search needs) (λ c. search needs) returns (λ c κs. search needs)
-    (λ c κs. search needs) (λ c κs. search needs) (λ c. search needs) returns-2)
+    (tie.spec (λ c κs. search needs) (λ c κs. search needs) (λ c κs. search needs) (λ c. search needs) returns)

@@ -10,7 +10,7 @@ returns c =
     let r = c .before .before .before in
     let s = r .before .before .before .before in
     let a = s .before .before .before .args in
-    bit-set (a .z) (now (a .b)) (a .k .0) (s .task-at .result) (r .with-stat .result) _ (s .task-at .ensures)
+    bit-set (a .z) (now (a .l)) (a .k .0) (s .task-at .result) (r .with-stat .result) _ (s .task-at .ensures)
     (c .before .before .put-task .ensures) (r .before .with .result) (a .bit) (r .before .with .ensures)
     (r .with-stat .ensures)
 

@@ -1,22 +1,19 @@
 -- `queue::messages::into_queue` meets its contract.
 use denote.Ref.{now}
-use Rattle.queue.proofs.Stores.{queue-into-stored}
 use borrow.Author.Needs.{needs}
+use Rattle.queue.proofs.Stores.{queue-into-stored}
 use Rattle.queue.proofs.messages.into_queue.Statement.{statement}
 use Rattle.queue.proofs.messages.into_queue.Tie as tie
 
 returns : tie.Need-returns
 returns c =
-    let s = c .before .before .before .before .before .before .before .before in
-    let t = s .before .before .before in
-    let u = t .before .before .before .before in
-    let a = u .before .before .before .args in
-    queue-into-stored (a .z) (now (a .b)) (a .m .0) (a .r .0) (u .task-at .result)
-    (t .before .before .message-at .result) (t .fifo .result) (s .before .before .number .result) (s .number2 .result)
-    (record { prev = s .before .place-for-message .result .prev; cur = s .before .place-for-message .result .cur }) _ _
-    (u .task-at .ensures) (t .before .before .message-at .ensures) (t .fifo .ensures)
-    (s .before .before .number .ensures) (s .number2 .ensures) (s .before .place-for-message .ensures)
-    (c .before .before .before .before .before .before .link-message .ensures) (c .before .before .put-behind .ensures)
+    let v = c .before .before .before .before .before .before .before in
+    let n = v .before .before in
+    let s = n .before .before in
+    let a = s .before .before .before .before .before .args in
+    queue-into-stored (a .z) (now (a .l)) (a .m .0) (a .r .0) (s .spot-for-message .result) (a .u) (n .with-prio .result) (v .with-link .result) _ _ _ _ _
+    (s .before .before .fifo .ensures) (s .before .number .ensures) (n .before .with-fifo .ensures) (n .with-prio .ensures) (s .spot-for-message .ensures)
+    (v .with-link .ensures) (c .before .before .before .before .before .before .put-message .ensures) (c .before .before .put-behind .ensures)
 
 pub into-queue-spec : {M : Type 1} → statement M
 into-queue-spec =

@@ -1,17 +1,27 @@
 -- `queue::tasks::put_behind` meets its contract.
-use Rattle.queue.proofs.Stores.{first-stored, link-stored}
+use mathlib.Core.Path.{sym, ap, _∙_}
+use denote.Ref.{now}
 use borrow.Author.Needs.{needs}
+use Rattle.board.specs.declared.numbers.TaskMeant.{TaskMeant}
+use Rattle.board.specs.Numbers.{numberOfTask}
+use Rattle.stores.specs.Moves.{behindTask}
 use Rattle.queue.proofs.tasks.put_behind.Statement.{statement}
 use Rattle.queue.proofs.tasks.put_behind.Tie as tie
 
 returns : tie.Need-returns
-returns c = first-stored (c .before .before .before .before .before .before .args .prev) _ _ _ (c .before .before .before .before .if1 .taken) (c .before .before .put-first-task .ensures)
+returns c =
+    let p = c .before .before .before .before .before in
+    let a = p .before .before .before .args in
+    c .before .before .link-task .ensures ∙ ap (λ (y : TaskMeant). behindTask (a .z) (now (a .l)) y (numberOfTask (a .x))) (sym (p .prev .given .1))
 
 returns-2 : tie.Need-returns-2
-returns-2 c = link-stored (c .before .before .before .before .before .before .args .prev) _ _ _ (c .before .before .before .before .if1 .left) (c .before .before .link-task .ensures)
+returns-2 c =
+    let p = c .before .before .before .before in
+    let a = p .before .before .before .args in
+    c .before .before .put-first-task .ensures ∙ ap (λ (y : TaskMeant). behindTask (a .z) (now (a .l)) y (numberOfTask (a .x))) (sym (p .enum-told .given .1))
 
 pub put-behind-spec : {M : Type 1} → statement M
 put-behind-spec =
     tie.close
-    (tie.spec (λ c. search needs) (λ c κs. search needs) (λ c κs. search needs) (λ c. search needs) returns
-    (λ c. search needs) returns-2)
+    (tie.spec (λ c. search needs) (λ c κs. search needs) (λ c. search needs) (λ c κs. search needs) (λ c. search needs)
+    returns (λ c. search needs) returns-2)
