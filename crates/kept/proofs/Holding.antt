@@ -1,4 +1,4 @@
--- A message that is settled in no queue: its record or its place written leaves every queue. Claim, release and prepare.
+-- A message that stands in no queue: its record or its place written leaves every queue. Claim, release and prepare.
 -- Assumes nothing.
 use mathlib.Core.Path.{_≡_, refl, sym, ap, _∙_, subst}
 use mathlib.Core.Logic.{_≢_, _↔_}

@@ -1,5 +1,5 @@
 -- A message moved into a queue or out of it: the queue of a task is linked anew, and the message and its place are written. What
--- it takes for the board to stand after that, but for the flags of the task; placing, taking and cancelling are such moves.
+-- it takes for the board to be settled after that, but for the flags of the task; placing, taking and cancelling are such moves.
 -- Assumes nothing.
 use mathlib.Core.Path.{_≡_, refl, sym, ap, _∙_, subst}
 use mathlib.Core.Logic.{_≢_, _⊎_, inl, inr, _↔_}

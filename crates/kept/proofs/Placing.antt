@@ -1,4 +1,4 @@
--- Place m at r: a held message goes into a queue, and the board is settled. Send, resend, forward, return, and their wait forms.
+-- Place m at r: a message that is in no queue goes into one, and the board is settled. Send, resend, forward, return, and their wait forms.
 -- Assumes nothing.
 use mathlib.Core.Path.{_≡_, refl, sym, ap, _∙_, subst}
 use mathlib.Core.Logic.{_≢_, inl, inr, ⊎-elim}

@@ -1,5 +1,5 @@
--- What calls keep, as statements; their proofs are in proofs/Theorems, those of the frames in proofs/Framed. A reader must believe this file.
---   BodySettles          the body of a call that no refusal of its row stops leaves R1 to R6, and the lists that its move says
+-- What calls keep, as statements; their proofs are in proofs/Bodies and proofs/Theorems. A reader must believe this file.
+--   BodySettles         the body of a call that no refusal of its row stops leaves R1 to R6, and the lists that its move says
 --   BodyFrame           it changes only the records that the call touches; DispatchFrame: dispatch only the running task and its message
 --   NeverStuck          refusal 15 is given on no board that passes
 --   PassingStaysPassing an accepted call on a board that passes leaves one that passes

@@ -1,8 +1,8 @@
 -- A board between a call's body and its dispatch: R1 to R6 hold, with the lists that its links list. A reader of the promises about
 -- calls must believe this file.
---   Fits z b                  the records are as many as the size says and every field fits its bytes
+--   Fits z b                   the records are as many as the size says and every field fits its bytes
 --   Settled z b order queues   b fits and keeps R1 to R6; its links list the tasks as order and the messages of task k as queues k
---   Fitting call              the call's arguments are words and bytes, as the code's types have it; AllFit calls: so of each
+--   Fitting call               the call's arguments are words and bytes, as the code's types have it; AllFit calls: so of each
 -- Assumes nothing.
 use mathlib.Core.Path.{_≡_}
 use mathlib.Core.Logic.{_⊎_}

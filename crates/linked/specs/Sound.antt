@@ -1,6 +1,6 @@
 -- R1 to R7 as document 01 words them, with no test that computes: what a board that passes is. A reader must believe this file.
 --   Proper t             what R2 asks of a present task
---   PlaceGood z b m p         what R4 asks of the message m where its place is p
+--   PlaceGood z b m p    what R4 asks of the message m where its place is p
 --   Flags s Empty        what R6 asks of a status; Empty says that the queue is empty
 --   Sound z b            R1 to R7
 -- Assumes nothing.

@@ -1,7 +1,7 @@
 -- Document 01, the two tables of refusals: when each number applies, and which numbers a call can give. A reader must believe this file.
--- 15 stands in no row here: it is found at dispatch, see Step.
+-- 15 stands in no row here: it is found at dispatch, see Outcomes.
 --   noN ..              refusal N, and whether it applies
---   row z l b c call    the refusals of that call, ascending, on the bytes l that are the board b, with c running
+--   row z l b c call    the refusals of that call, ascending, on the bytes l that are the board b, with c running; ownRow those after 1 and 2
 --   lowest tests        the lowest that applies, or that the call may go on
 -- Assumes nothing.
 use mathlib.Core.Bool.{Bool, true, false, not, _||_}
