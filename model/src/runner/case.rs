@@ -7,7 +7,7 @@ use crate::{check, fresh, step, Answer, Call};
 
 /// The kind that checks a board.
 pub const CHECK: u8 = 0;
-/// The kind that makes a fresh board.
+/// The kind that makes a fresh board, between the drivers of cases: to the library it is no call.
 pub const FRESH: u8 = 254;
 /// The number given for a kind that is no call.
 pub const NO_CALL: u8 = 255;
