@@ -18,20 +18,37 @@ use Rattle.board.specs.Numbers.{taskNo}
 use Rattle.board.specs.Status.{number}
 use Rattle.board.specs.Records.{noMessage}
 use Rattle.board.specs.Places.{isQueued}
-use Rattle.board.specs.Board.{Board, task, message, place, withMessage, withPlace}
+use Rattle.board.specs.Board.{Board, task, message, place, withMessage, withPlace, put, withMessages, withPlaces}
 use Rattle.board.proofs.Codec.{place-held}
 use Rattle.paper.specs.declared.call.Call.the-variants.{Claim, Prepare, Release}
 use Rattle.paper.specs.Rules.{present, nextMessage, messageNumber, running}
 use Rattle.paper.specs.Effects.{lowestFree, claim, release, prepare}
 use Rattle.paper.specs.Refusals.{no14, ownRow, Go, lowest}
-use Rattle.linked.specs.Linked.{Numbered}
+use Rattle.linked.specs.Linked.{Listing, Numbered}
 use Rattle.linked.specs.Sound.{Pointers, PlaceGood}
 use Rattle.linked.proofs.Running.{present-numbered, placed-numbered, runner-says, lowest-free}
-use Rattle.kept.specs.Settled.{Byte, Word, FitsMessage, Settled, Fitting}
+use Rattle.kept.specs.Settled.{Byte, Word, FitsMessage, Fits, Settled, Fitting}
 use Rattle.kept.specs.Claims.{Sizes}
 use Rattle.kept.proofs.Reading.{nth-cases, message-put, message-other, held-placed}
 use Rattle.kept.proofs.Reading.{FitsPlace, fits-message, fits-place, listing-stays, good-stays}
 use Rattle.kept.proofs.Reading.{go-passed, held-row, claim-row}
+
+-- ---- messages and places written
+-- where each queue is listed as before and R4 holds of each message the board is settled
+settled-mail : (z : Size) (b : Board) (order : List ℕ) (queues : ℕ → List ℕ) → Settled z b order queues
+    → (ms : List Message) (ps : List Place) → let d = withPlaces (withMessages b ms) ps in
+    Fits z d → ((k : ℕ) → Numbered (z .tasks) k
+    → Listing (nextMessage d) (messageNumber d) (task b k .mptr) (queues k) (λ m. place d m ≡ QueuedAt (taskNo k)))
+    → ((m : ℕ) → Numbered (z .messages) m → PlaceGood z d m (place d m)) → Settled z d order queues
+settled-mail z b order queues s ms ps f l g = record {
+  fits = f;
+  byte1 = s .byte1;
+  zeros = s .zeros;
+  records = s .records;
+  linked = record { tasks = s .linked .tasks; messages = l };
+  places = g;
+  flags = s .flags;
+}
 
 -- ---- in no queue
 module _ (z : Size) (b : Board) (order : List ℕ) (queues : ℕ → List ℕ) (s : Settled z b order queues) (m : ℕ) where
@@ -43,22 +60,12 @@ module _ (z : Size) (b : Board) (order : List ℕ) (queues : ℕ → List ℕ) (
   -- its place written
   pub settled-place : (p : Place) → isQueued (place b m) ≡ false → isQueued p ≡ false → FitsPlace z p → PlaceGood z b m p
       → Settled z (withPlace b m p) order queues
-  settled-place p u v f g = record {
-    fits = fits-place z b (s .fits) m p f;
-    byte1 = s .byte1;
-    zeros = s .zeros;
-    records = s .records;
-    linked = record {
-      tasks = s .linked .tasks;
-      messages = λ k h.
-          listing-stays (nextMessage b) (nextMessage b) (messageNumber b) (messageNumber b) (task b k .mptr) (queues k) _ _
-          (λ y i. refl) (λ y i. refl) (same k) (s .linked .messages k h);
-    };
-    places = λ j h.
-        good-stays z b (withPlace b m p) j (place (withPlace b m p) j) refl (λ k w t. t)
-        (nth-cases (PlaceGood z b j) Free (b .places) m j p (λ e. subst (λ (x : ℕ). PlaceGood z b x p) (sym e) g) (s .places j h));
-    flags = s .flags;
-  }
+  settled-place p u v f g =
+      settled-mail z b order queues s (b .messages) (put (b .places) m p) (fits-place z b (s .fits) m p f)
+      (λ k h. listing-stays (nextMessage b) (nextMessage b) (messageNumber b) (messageNumber b) (task b k .mptr) (queues k) _ _
+      (λ y i. refl) (λ y i. refl) (same k) (s .linked .messages k h))
+      (λ j h. good-stays z b (withPlace b m p) j (place (withPlace b m p) j) refl (λ k w t. t)
+      (nth-cases (PlaceGood z b j) Free (b .places) m j p (λ e. subst (λ (x : ℕ). PlaceGood z b x p) (sym e) g) (s .places j h)))
     where
       same : (k y : ℕ) → (place b y ≡ QueuedAt (taskNo k)) ↔ (place (withPlace b m p) y ≡ QueuedAt (taskNo k))
       same k y = (
@@ -95,22 +102,13 @@ module _ (z : Size) (b : Board) (order : List ℕ) (queues : ℕ → List ℕ) (
 
       -- LINK 0, and task numbers for RPTR and SPTR
       pub settled-record : Settled z (withMessage b m u) order queues
-      settled-record = record {
-        fits = fits-message z b (s .fits) m u f;
-        byte1 = s .byte1;
-        zeros = s .zeros;
-        records = s .records;
-        linked = record {
-          tasks = s .linked .tasks;
-          messages = λ k h.
-              listing-stays (nextMessage b) (nextMessage d) (messageNumber b) (messageNumber d) (task b k .mptr) (queues k) _ _
-              (λ y i. ap (λ (x : Message). x .link) (same-queued k h y i))
-              (λ y i. ap (λ (x : Message). number (x .prio)) (same-queued k h y i)) (λ y. ((λ q. q), λ q. q))
-              (s .linked .messages k h);
-        };
-        places = λ j h. good-each j h (ℕ-discrete j m);
-        flags = s .flags;
-      }
+      settled-record =
+          settled-mail z b order queues s (put (b .messages) m u) (b .places) (fits-message z b (s .fits) m u f)
+          (λ k h. listing-stays (nextMessage b) (nextMessage d) (messageNumber b) (messageNumber d) (task b k .mptr) (queues k) _ _
+          (λ y i. ap (λ (x : Message). x .link) (same-queued k h y i))
+          (λ y i. ap (λ (x : Message). number (x .prio)) (same-queued k h y i)) (λ y. ((λ q. q), λ q. q))
+          (s .linked .messages k h))
+          (λ j h. good-each j h (ℕ-discrete j m))
 
 -- ---- claim
 -- R4 lets a present task hold a message that was free

@@ -21,7 +21,7 @@ use Rattle.board.specs.declared.places.Place.the-variants.{Free, HeldBy, Queued
 use Rattle.board.specs.Numbers.{outside, taskNo}
 use Rattle.board.specs.Records.{noTask, noMessage}
 use Rattle.board.specs.Places.{placeOf, placeByte, isFree, isHeldBy, isQueuedAt}
-use Rattle.board.specs.Board.{Board, nth, put, task, message, place, withFirst, withTask, withMessage, withPlace}
+use Rattle.board.specs.Board.{Board, nth, put, task, message, place, withFirst, withTasks, withMessages, withPlaces, withTask, withMessage, withPlace}
 use Rattle.board.proofs.Numbered.{nth-put, nth-put-other, nth-alike, length-put}
 use Rattle.board.proofs.Pieces.{outside-within, neither}
 use Rattle.paper.specs.Rules.{isThere, present, order, queue}
@@ -100,61 +100,44 @@ abbrev pub FitsPlace : Size → Place → Type 0
 FitsPlace z p = Byte (placeByte p) × (placeOf z (placeByte p) ≡ p)
 
 module _ (z : Size) (b : Board) (f : Fits z b) where
-  -- byte 0 written
-  pub fits-first : (x : ℕ) → Byte x → Fits z (withFirst b x)
-  fits-first x h = record {
+  -- byte 0 and the records written, as many as before
+  fits-with : (x : ℕ) (ts : List Task) (ms : List Message) (ps : List Place) → Byte x → length ts ≡ length (b .tasks)
+      → length ms ≡ length (b .messages) → length ps ≡ length (b .places) → ((k : ℕ) → FitsTask (nth noTask ts k))
+      → ((m : ℕ) → FitsMessage (nth noMessage ms m)) → ((m : ℕ) → FitsPlace z (nth Free ps m))
+      → Fits z (withFirst (withTasks (withMessages (withPlaces b ps) ms) ts) x)
+  fits-with x ts ms ps h n o p t u v = record {
     first = h;
     byte1 = f .byte1;
     zeros = f .zeros;
-    tasks = f .tasks;
-    messages = f .messages;
-    places = f .places;
-    task = f .task;
-    message = f .message;
-    place = f .place;
+    tasks = n ∙ f .tasks;
+    messages = o ∙ f .messages;
+    places = p ∙ f .places;
+    task = t;
+    message = u;
+    place = v;
   }
+
+  -- byte 0 written
+  pub fits-first : (x : ℕ) → Byte x → Fits z (withFirst b x)
+  fits-first x h = fits-with x (b .tasks) (b .messages) (b .places) h refl refl refl (f .task) (f .message) (f .place)
 
   -- a task written
   pub fits-task : (k : ℕ) (t : Task) → FitsTask t → Fits z (withTask b k t)
-  fits-task k t h = record {
-    first = f .first;
-    byte1 = f .byte1;
-    zeros = f .zeros;
-    tasks = length-put (b .tasks) k t ∙ f .tasks;
-    messages = f .messages;
-    places = f .places;
-    task = λ j. nth-cases FitsTask noTask (b .tasks) k j t (λ e. h) (f .task j);
-    message = f .message;
-    place = f .place;
-  }
+  fits-task k t h =
+      fits-with (b .first) (put (b .tasks) k t) (b .messages) (b .places) (f .first) (length-put (b .tasks) k t) refl refl
+      (λ j. nth-cases FitsTask noTask (b .tasks) k j t (λ e. h) (f .task j)) (f .message) (f .place)
 
   -- a message written
   pub fits-message : (m : ℕ) (u : Message) → FitsMessage u → Fits z (withMessage b m u)
-  fits-message m u h = record {
-    first = f .first;
-    byte1 = f .byte1;
-    zeros = f .zeros;
-    tasks = f .tasks;
-    messages = length-put (b .messages) m u ∙ f .messages;
-    places = f .places;
-    task = f .task;
-    message = λ j. nth-cases FitsMessage noMessage (b .messages) m j u (λ e. h) (f .message j);
-    place = f .place;
-  }
+  fits-message m u h =
+      fits-with (b .first) (b .tasks) (put (b .messages) m u) (b .places) (f .first) refl (length-put (b .messages) m u) refl
+      (f .task) (λ j. nth-cases FitsMessage noMessage (b .messages) m j u (λ e. h) (f .message j)) (f .place)
 
   -- a place written
   pub fits-place : (m : ℕ) (p : Place) → FitsPlace z p → Fits z (withPlace b m p)
-  fits-place m p h = record {
-    first = f .first;
-    byte1 = f .byte1;
-    zeros = f .zeros;
-    tasks = f .tasks;
-    messages = f .messages;
-    places = length-put (b .places) m p ∙ f .places;
-    task = f .task;
-    message = f .message;
-    place = λ j. nth-cases (FitsPlace z) Free (b .places) m j p (λ e. h) (f .place j);
-  }
+  fits-place m p h =
+      fits-with (b .first) (b .tasks) (b .messages) (put (b .places) m p) (f .first) refl refl (length-put (b .places) m p)
+      (f .task) (f .message) (λ j. nth-cases (FitsPlace z) Free (b .places) m j p (λ e. h) (f .place j))
 
 -- ---- the links of a queue written
 -- what each link keeps, they keep
