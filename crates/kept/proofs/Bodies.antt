@@ -7,7 +7,7 @@ use mathlib.Core.List.{List}
 use Prim.Native.Nat.{ℕ}
 use Rattle.board.specs.declared.numbers.Size.{Size}
 use Rattle.board.specs.Status.{IWAT, INTQ, MHBS, has}
-use Rattle.board.specs.Board.{Board, task}
+use Rattle.board.specs.Board.{Board, task, message}
 use Rattle.paper.specs.declared.call.Call.{Call}
 use Rattle.paper.specs.declared.call.Call.the-variants.{Install, PostInterrupt, Find, CancelTask, Claim, Prepare, Release, Send}
 use Rattle.paper.specs.declared.call.Call.the-variants.{SendAndWait, Resend, ResendAndWait, Forward, ForwardAndWait, Return, ReturnAndWait}
@@ -20,8 +20,8 @@ use Rattle.kept.specs.Settled.{Settled, Fitting}
 use Rattle.kept.specs.Touched.{touched, orderAfter, queuesAfter}
 use Rattle.kept.specs.Claims.{Sizes, BodySettles, BodyFrame, DispatchFrame}
 use Rattle.kept.proofs.Framing.{frame-none, frame-then, frame-stat, frame-message, frame-place}
-use Rattle.kept.proofs.Framed.{Framed, frame-flag, framed-install, framed-cancel, framed-release, framed-place, framed-send, framed-take}
-use Rattle.kept.proofs.Framed.{framed-back, framed-wait}
+use Rattle.kept.proofs.Framed.{Framed, frame-flag, framed-install, framed-cancel, framed-release, framed-send, framed-send-wait}
+use Rattle.kept.proofs.Framed.{framed-forward, framed-forward-wait, framed-take, framed-back}
 use Rattle.kept.proofs.Flagging.{post-settled, wait-settled}
 use Rattle.kept.proofs.Holding.{claim-settled, release-settled, prepare-settled}
 use Rattle.kept.proofs.Installing.{install-settled}
@@ -51,18 +51,14 @@ module _ (z : Size) (b : Board) (q : List ℕ) (f : ℕ → List ℕ) where
   keeps (Prepare n s p sptr) =
       (frame-message b n _ (inr (inl refl)), λ a w h m g. prepare-settled z b q f h c n s p sptr w g)
   keeps (Release n) = (framed-release z b c n, λ a w h m g. release-settled z b q f h c n g)
-  keeps (Send n r) = (framed-send z b c _ n r (inl refl), λ a w h m g. send-settled z b q f a h n r g .0)
-  keeps (SendAndWait n r) =
-      (framed-wait z b c _ r _ _ (framed-send z b c _ n r (inl refl)), λ a w h m g. send-settled z b q f a h n r g .1 m)
-  keeps (Resend n) = (framed-place z b c _ n _ (inl refl), λ a w h m g. resend-settled z b q f a h n g .0)
-  keeps (ResendAndWait n) =
-      (framed-wait z b c _ _ _ _ (framed-place z b c _ n _ (inl refl)), λ a w h m g. resend-settled z b q f a h n g .1 m)
-  keeps (Forward n r) = (framed-place z b c _ n r (inl refl), λ a w h m g. forward-settled z b q f a h n r g .0)
-  keeps (ForwardAndWait n r) =
-      (framed-wait z b c _ r _ _ (framed-place z b c _ n r (inl refl)), λ a w h m g. forward-settled z b q f a h n r g .1 m)
-  keeps (Return n) = (framed-place z b c _ n _ (inl refl), λ a w h m g. return-settled z b q f a h n g .0)
-  keeps (ReturnAndWait n) =
-      (framed-wait z b c _ _ _ _ (framed-place z b c _ n _ (inl refl)), λ a w h m g. return-settled z b q f a h n g .1 m)
+  keeps (Send n r) = (framed-send z b c n r, λ a w h m g. send-settled z b q f a h n r g .0)
+  keeps (SendAndWait n r) = (framed-send-wait z b c n r, λ a w h m g. send-settled z b q f a h n r g .1 m)
+  keeps (Resend n) = (framed-forward z b c n _, λ a w h m g. resend-settled z b q f a h n g .0)
+  keeps (ResendAndWait n) = (framed-forward-wait z b c n (message b n .rptr), λ a w h m g. resend-settled z b q f a h n g .1 m)
+  keeps (Forward n r) = (framed-forward z b c n r, λ a w h m g. forward-settled z b q f a h n r g .0)
+  keeps (ForwardAndWait n r) = (framed-forward-wait z b c n r, λ a w h m g. forward-settled z b q f a h n r g .1 m)
+  keeps (Return n) = (framed-forward z b c n _, λ a w h m g. return-settled z b q f a h n g .0)
+  keeps (ReturnAndWait n) = (framed-forward-wait z b c n (message b n .sptr), λ a w h m g. return-settled z b q f a h n g .1 m)
   keeps Receive = (framed-take z b c, λ a w h m g. receive-settled z b q f a h m g)
   keeps ReceiveAndWait = (frame-stat b c _ (inl refl), λ a w h m g. receive-and-wait-settled z b q f h m g)
   keeps (CancelMessage n r) = (framed-back z b c n r, λ a w h m g. cancel-message-settled z b q f a h n r g)

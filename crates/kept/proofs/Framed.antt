@@ -18,7 +18,7 @@ use Rattle.board.specs.Records.{noTask, noMessage}
 use Rattle.board.specs.Board.{Board, task}
 use Rattle.board.proofs.Numbered.{nth-alike}
 use Rattle.paper.specs.declared.call.Call.{Call}
-use Rattle.paper.specs.declared.call.Call.the-variants.{Install, CancelTask, Release, Receive, CancelMessage}
+use Rattle.paper.specs.declared.call.Call.the-variants.{Install, CancelTask, Release, Send, SendAndWait, Forward, ForwardAndWait, Receive, CancelMessage}
 use Rattle.paper.specs.Rules.{order, queue, emptyQueue, nextMessage, taskNumber}
 use Rattle.paper.specs.Changes.{sets, clears, linkMessage, hold}
 use Rattle.paper.specs.Effects.{queueWith, woken, emptied, placeAt, addressed, send, waits}
@@ -101,13 +101,25 @@ module _ (z : Size) (b : Board) (c : ℕ) where
   pub framed-release : (m : ℕ) → Framed (Release m)
   framed-release m = frame-then (frame-message b m noMessage (inr (inl refl))) (frame-place _ m Free (inr (inl refl)))
 
-  -- a message placed, sent, taken, taken back
-  pub framed-place : (ts : List ℕ) (m r : ℕ) → In r ts → Frame b (placeAt z b m r) ts (m ∷ []) (queue z b r) false
-  framed-place ts m r i = frame-place-at z b m r i (inl refl) (own-queue m r)
+  -- and the caller waits
+  framed-wait : (d : Board) (r : ℕ) (ms q : List ℕ) → Frame b d (r ∷ c ∷ []) ms q false
+      → Frame b (waits c d) (r ∷ c ∷ []) ms q false
+  framed-wait d r ms q f = frame-then f (frame-stat d c _ (inr (inl refl)))
 
-  pub framed-send : (ts : List ℕ) (m r : ℕ) → In r ts → Frame b (send z b c m r) ts (m ∷ []) (queue z b r) false
-  framed-send ts m r i = frame-send z b c m r i (inl refl) (own-queue m r)
+  -- a message sent, and with the wait; so forward, and with it resend and return
+  pub framed-send : (m r : ℕ) → Framed (Send m r)
+  framed-send m r = frame-send z b c m r (inl refl) (inl refl) (own-queue m r)
 
+  pub framed-send-wait : (m r : ℕ) → Framed (SendAndWait m r)
+  framed-send-wait m r = framed-wait _ r _ _ (frame-send z b c m r (inl refl) (inl refl) (own-queue m r))
+
+  pub framed-forward : (m r : ℕ) → Framed (Forward m r)
+  framed-forward m r = frame-place-at z b m r (inl refl) (inl refl) (own-queue m r)
+
+  pub framed-forward-wait : (m r : ℕ) → Framed (ForwardAndWait m r)
+  framed-forward-wait m r = framed-wait _ r _ _ (frame-place-at z b m r (inl refl) (inl refl) (own-queue m r))
+
+  -- a message taken, taken back
   pub framed-take : Framed Receive
   framed-take =
       frame-then (frame-queue b c (restOf (queue z b c)) (inl refl) (all-rest _ (queue z b c) (own-queue (task b c .mptr) c)))
@@ -117,8 +129,3 @@ module _ (z : Size) (b : Board) (c : ℕ) where
   framed-back m r =
       frame-then (frame-queue b r (without m (queue z b r)) (inl refl) (all-without _ m (queue z b r) (own-queue m r)))
       (frame-then (frame-hold _ c m (inr (inl refl))) (frame-emptied _ r (inl refl)))
-
-  -- and the caller waits
-  pub framed-wait : (d : Board) (r : ℕ) (ms q : List ℕ) → Frame b d (r ∷ c ∷ []) ms q false
-      → Frame b (waits c d) (r ∷ c ∷ []) ms q false
-  framed-wait d r ms q f = frame-then f (frame-stat d c _ (inr (inl refl)))
