@@ -1,10 +1,9 @@
--- The stores of each call's body come to its effect, on a board that is settled and where no refusal of its row applies. Assumes nothing.
-use mathlib.Core.Path.{_≡_, sym, _∙_, subst}
+-- The stores of the effects that calls share come to those effects, on a board that is settled. Assumes nothing.
+use mathlib.Core.Path.{_≡_, refl, sym, ap, _∙_, subst}
 use mathlib.Core.Logic.{_≢_, inl}
 use mathlib.Core.Bool.{Bool, true, false, cond, _&&_}
 use mathlib.Core.List.{List, [], _∷_}
 use Prim.Native.Nat.{ℕ}
-use native.Mathlib.Omega.{arith}
 use native.Mathlib.Decide.{ℕ-discrete}
 use lib.ListN.{length}
 use Rattle.links.specs.Queue.{firstOf, restOf}
@@ -13,71 +12,61 @@ use Rattle.board.specs.declared.numbers.Size.{Size}
 use Rattle.board.specs.declared.status.Status.{Status}
 use Rattle.board.specs.declared.records.Task.{Task}
 use Rattle.board.specs.declared.records.Message.{Message}
-use Rattle.board.specs.declared.places.Place.the-variants.{Free, HeldBy, QueuedAt}
-use Rattle.board.specs.Numbers.{outside, taskNo}
-use Rattle.board.specs.Status.{WAIT, IWAT, INTQ, MHBS, has, withFifo}
-use Rattle.board.specs.Records.{withPrio}
-use Rattle.board.specs.Board.{Board, total, boardOf, task, message, withMessage, withPlace}
+use Rattle.board.specs.declared.places.Place.the-variants.{QueuedAt}
+use Rattle.board.specs.Numbers.{outside, onBoard, taskNo}
+use Rattle.board.specs.Status.{WAIT, IWAT, INTQ, MHBS, has}
+use Rattle.board.specs.Board.{Board, total, boardOf, task, withMessage, withPlace}
 use Rattle.board.specs.Writes.{putPlace}
 use Rattle.board.proofs.Pieces.{within-outside, outside-zero}
-use Rattle.paper.specs.Rules.{present, nextMessage, queue, order, emptyQueue}
+use Rattle.board.proofs.Codec.{length-messages}
+use Rattle.paper.specs.Rules.{present, queue, emptyQueue}
 use Rattle.paper.specs.Changes.{sets, clears, hold, withQueue, takeFirst}
-use Rattle.paper.specs.Effects.{queueWith, woken, placeAt, emptied, post, waitInterrupt, waits}
+use Rattle.paper.specs.Effects.{woken, placeAt, emptied, post, waitInterrupt, waits}
 use Rattle.linked.specs.Linked.{Linked, Numbered}
-use Rattle.linked.proofs.Running.{placed-numbered}
 use Rattle.kept.specs.Claims.{Sizes}
 use Rattle.kept.specs.Settled.{Settled}
-use Rattle.kept.proofs.Reading.{queued-placed, queue-walked}
 use Rattle.kept.proofs.Waiting.{task-numbered}
 use Rattle.kept.proofs.Taking.{take-none}
-use Rattle.queue.specs.Moves.{setsIn, clearsIn, queueInto, mptrIn, holdIn}
-use Rattle.queue.proofs.Effects.{length-mptr}
-use Rattle.queue.proofs.Queues.{length-queue-into, queue-first, queue-into, queue-next}
-use Rattle.inner.specs.Stores.{wokenIn, markedIn, placeAtIn, takeIn, emptiedIn, postIn, waitInterruptIn, waitsIn}
-use Rattle.stored.proofs.Comes.{Comes, and-then, comes-cond, comes-same, comes-sets, comes-clears, comes-message, comes-queued, comes-hold}
+use Rattle.stores.specs.Changes as changes
+use Rattle.stores.specs.Moves as moves
+use Rattle.stores.specs.Effects as stores
+use Rattle.stored.proofs.Comes.{Comes, and-then, comes-to, comes-cond, comes-same, comes-task, comes-queued, comes-hold}
+use Rattle.stored.proofs.Queues.{queue-numbered, queue-first, queue-read, queue-into, placed-once, queue-next}
 
 -- ---- flags
 module _ (z : Size) (l : List ℕ) (e : length l ≡ total z) where
-  comes-two : (k off on : ℕ) → Comes z (setsIn z (clearsIn z l k off) k on) (sets (clears (boardOf z l) k off) k on)
+  comes-two : (k off on : ℕ) → Comes z (changes.sets z (changes.clears z l k off) k on) (sets (clears (boardOf z l) k off) k on)
   comes-two k off on =
-      and-then z (clearsIn z l k off) _ _ (λ b. sets b k on) (comes-clears z l e k off) (λ f. comes-sets z (clearsIn z l k off) f k on)
+      let d : List ℕ = changes.clears z l k off in
+      and-then z d _ _ (λ b. sets b k on) (comes-task z l e k _) (λ f. comes-task z d f k _)
 
-  pub comes-woken : (r : ℕ) → Comes z (wokenIn z l r) (woken (boardOf z l) r)
+  pub comes-woken : (r : ℕ) → Comes z (stores.woken z l r) (woken (boardOf z l) r)
   comes-woken r = comes-cond z (has (task (boardOf z l) r .stat) WAIT) _ _ _ _ (comes-two r WAIT MHBS) (comes-same z l e)
 
-  pub comes-emptied : (r : ℕ) → Comes z (emptiedIn z l r) (emptied (boardOf z l) r)
+  pub comes-emptied : (r : ℕ) → Comes z (stores.emptied z l r) (emptied (boardOf z l) r)
   comes-emptied r =
       comes-cond z (has (task (boardOf z l) r .stat) MHBS && emptyQueue (boardOf z l) r) _ _ _ _ (comes-two r MHBS WAIT) (comes-same z l e)
 
-  pub comes-post : (k : ℕ) → Comes z (postIn z l k) (post (boardOf z l) k)
-  comes-post k = comes-cond z (has (task (boardOf z l) k .stat) IWAT) _ _ _ _ (comes-clears z l e k IWAT) (comes-sets z l e k INTQ)
+  pub comes-post : (k : ℕ) → Comes z (stores.post z l k) (post (boardOf z l) k)
+  comes-post k = comes-cond z (has (task (boardOf z l) k .stat) IWAT) _ _ _ _ (comes-task z l e k _) (comes-task z l e k _)
 
-  pub comes-wait : (c : ℕ) → Comes z (waitInterruptIn z l c) (waitInterrupt (boardOf z l) c)
-  comes-wait c = comes-cond z (has (task (boardOf z l) c .stat) INTQ) _ _ _ _ (comes-clears z l e c INTQ) (comes-sets z l e c IWAT)
+  pub comes-wait : (c : ℕ) → Comes z (stores.waitInterrupt z l c) (waitInterrupt (boardOf z l) c)
+  comes-wait c = comes-cond z (has (task (boardOf z l) c .stat) INTQ) _ _ _ _ (comes-task z l e c _) (comes-task z l e c _)
 
-  pub comes-waits : (c : ℕ) → Comes z (waitsIn z l c) (waits c (boardOf z l))
-  comes-waits c = comes-sets z l e c (cond (emptyQueue (boardOf z l) c) WAIT MHBS)
+  pub comes-waits : (c : ℕ) → Comes z (stores.waits z l c) (waits c (boardOf z l))
+  comes-waits c = comes-task z l e c _
 
--- ---- placing
-module _ (z : Size) (l : List ℕ) (e : length l ≡ total z) (a : Sizes z) {order : List ℕ} {queues : ℕ → List ℕ}
-    (h : Linked z (boardOf z l) order queues) (m r : ℕ) (n : Numbered (z .tasks) r) (o : Out m (queues r)) where
-  abbrev b : Board
-  b = boardOf z l
-
-  queued : Comes z (putPlace z (queueInto z l m r) m (QueuedAt (taskNo r))) (withPlace (withQueue b r (queueWith z b m r)) m (QueuedAt (taskNo r)))
-  queued =
-      and-then z (queueInto z l m r) _ _ (λ x. withPlace x m (QueuedAt (taskNo r)))
-      (length-queue-into z l m r ∙ e, queue-into z l e (a .limit) h r n m o) (λ f. comes-queued z (queueInto z l m r) f m r n (a .tasks))
-
-  marked : (k : List ℕ) (p : ℕ) → length k ≡ total z → Comes z (markedIn z k m p) (withMessage (boardOf z k) m (withPrio (message (boardOf z k) m) p))
-  marked k p f = comes-message z k f m (withPrio (message (boardOf z k) m) p)
-
-  pub comes-placed : Comes z (placeAtIn z l m r) (placeAt z b m r)
-  comes-placed =
-      let k : List ℕ = putPlace z (queueInto z l m r) m (QueuedAt (taskNo r)) in
-      let p : ℕ = withFifo (message b m .prio) in
-      and-then z (markedIn z k m p) _ _ (λ x. woken x r)
-      (and-then z k _ _ (λ x. withMessage x m (withPrio (message x m) p)) queued (marked k p)) (λ f. comes-woken z (markedIn z k m p) f r)
+-- ---- placing a message, as the record u
+pub comes-placed : (z : Size) (l : List ℕ) → length l ≡ total z → Sizes z → {order : List ℕ} {queues : ℕ → List ℕ}
+    → Linked z (boardOf z l) order queues → (m : ℕ) (u : Message) (r : ℕ) → Numbered (z .messages) m → Numbered (z .tasks) r
+    → let b = boardOf z l in Out m (queue z b r) → Comes z (stores.placeAt z l m u r) (placeAt z (withMessage b m u) m r)
+comes-placed z l e a h m u r k n o =
+    let q : List ℕ = moves.queueInto z l m u r in
+    let d : List ℕ = putPlace z q m (QueuedAt (taskNo r)) in
+    let queued = and-then z q d _ (λ x. withPlace x m (QueuedAt (taskNo r))) (queue-into z l e (a .limit) h r n m u o)
+    (λ f. comes-queued z q f m r n (a .tasks)) in
+    comes-to z _ _ _ (and-then z d _ _ (λ x. woken x r) queued (λ f. comes-woken z d f r))
+    (sym (placed-once z l e (a .limit) h r n m u o (rw (← length-messages z l) at k)))
 
 -- ---- taking the first message of a queue
 first-member : (q : List ℕ) (x : ℕ) → x ≡ firstOf q → x ≢ 0 → In x q
@@ -95,29 +84,36 @@ module _ (z : Size) (l : List ℕ) (e : length l ≡ total z) (a : Sizes z) (ord
   taker : Numbered (z .tasks) c
   taker = task-numbered z from order queues s c there
 
-  -- MPTR is the first of the queue that is walked
+  -- MPTR is the first of the queue that is walked, and read so
   pub first-walked : first ≡ firstOf (queue z from c)
   first-walked = queue-first z l e (a .limit) (s .linked) c taker
+
+  pub first-read : onBoard (z .messages) first ≡ firstOf (queue z from c)
+  first-read = queue-read z l e (a .limit) (s .linked) c taker
+
+  first-in : first ≢ 0 → In first (queue z from c)
+  first-in n = first-member (queue z from c) first first-walked n
 
   -- where there is one it is a message of the board
   pub first-numbered : first ≢ 0 → outside (z .messages) first ≡ false
   first-numbered n =
-      let w = queue-walked z from order queues s c taker in
-      let x = s .linked .messages c taker in
-      let i : In first (queues c) = subst (λ (q : List ℕ). In first q) w (first-member (queue z from c) first first-walked n) in
-      let p = placed-numbered from first (queued-placed from first c (x .exact first .0 i)) in
-      within-outside (z .messages) first (p .0) (let q = s .fits .places in omega (arith, p .1))
+      let p = queue-numbered z l e (a .limit) (s .linked) c taker first (first-in n) in within-outside (z .messages) first (p .0) (p .1)
 
-  pub comes-taken : Comes z (takeIn z l c) (takeFirst z from c)
+  pub comes-taken : Comes z (stores.takeFirst z l c) (takeFirst z from c)
   comes-taken = go (ℕ-discrete first 0)
     where
-      go : Dec (first ≡ 0) → Comes z (takeIn z l c) (takeFirst z from c)
+      k : List ℕ
+      k = changes.withMptr z l c (moves.messageBehind z from first)
+
+      taken : Bool → List ℕ
+      taken t = cond t l (changes.hold z k c first)
+
+      go : Dec (first ≡ 0) → Comes z (stores.takeFirst z l c) (takeFirst z from c)
       go (yes n) =
-          subst (λ (t : Bool). Comes z (cond t l (holdIn z (mptrIn z l c (nextMessage from first)) c first)) (takeFirst z from c))
-          (sym (outside-zero (z .messages) first n)) (e, sym (take-none z from order queues a s c there n))
+          subst (λ (t : Bool). Comes z (taken t) (takeFirst z from c)) (sym (outside-zero (z .messages) first n))
+          (e, sym (take-none z from order queues a s c there n))
       go (no n) =
-          let k : List ℕ = mptrIn z l c (nextMessage from first) in
-          subst (λ (t : Bool). Comes z (cond t l (holdIn z k c first)) (takeFirst z from c)) (sym (first-numbered n))
-          (subst (λ (x : ℕ). Comes z (holdIn z k c first) (hold (withQueue from c (restOf (queue z from c))) c x)) first-walked
-          (and-then z k _ _ (λ x. hold x c first) (length-mptr z l c (nextMessage from first) ∙ e, queue-next z l e (a .limit) (s .linked) c taker)
+          subst (λ (t : Bool). Comes z (taken t) (takeFirst z from c)) (sym (first-numbered n))
+          (subst (λ (x : ℕ). Comes z (taken false) (hold (withQueue from c (restOf (queue z from c))) c x)) first-walked
+          (and-then z k _ _ (λ x. hold x c first) (queue-next z l e (a .limit) (s .linked) c taker (first-in n))
           (λ f. comes-hold z k f c first taker (a .tasks))))

@@ -1,11 +1,14 @@
--- The whole call as code makes it is document 01's effect, on a board that passes. Assumes nothing.
+-- The stores of each call's body come to its effect, on a board that is settled and where no refusal of its row applies.
+--   Body z c d p     the stores d come to what the paper says, p: the value, the bytes, and who runs then where c ran before
+-- Assumes nothing.
 use mathlib.Core.Path.{_≡_, refl, sym, ap, _∙_, subst}
 use mathlib.Core.Logic.{_≢_}
-use mathlib.Core.Bool.{Bool, true, cond, true≢false}
+use mathlib.Core.Bool.{Bool, true, false, true≢false}
 use mathlib.Core.List.{List, [], _∷_}
 use Prim.Native.Nat.{ℕ}
-use lib.ListN.{length}
 use lib.Dec.{eqb}
+use lib.ListN.{length}
+use Rattle.links.specs.Queue.{firstWith}
 use Rattle.links.specs.Chain.{In, Out}
 use Rattle.links.proofs.Members.{not-in-out}
 use Rattle.board.specs.declared.numbers.Size.{Size}
@@ -13,39 +16,58 @@ use Rattle.board.specs.declared.numbers.TaskNo.{TaskNo}
 use Rattle.board.specs.declared.status.Status.{Status}
 use Rattle.board.specs.declared.records.Task.{Task}
 use Rattle.board.specs.declared.records.Message.{Message}
-use Rattle.board.specs.declared.places.Place.the-variants.{Free, HeldBy, QueuedAt}
-use Rattle.board.specs.Numbers.{outside, taskNo}
-use Rattle.board.specs.Status.{MHBS, stored}
-use Rattle.board.specs.Records.{noTask, noMessage, withStat, withPrio, withRptr, withSptr}
+use Rattle.board.specs.declared.places.Place.the-variants.{Free, HeldBy}
+use Rattle.board.specs.Numbers.{taskNo}
+use Rattle.board.specs.Status.{stored}
+use Rattle.board.specs.Records.{noTask, noMessage}
+use Rattle.board.specs.Places.{isQueued}
 use Rattle.board.specs.Board.{Board, total, boardOf, task, message, place, withTask, withMessage, withPlace}
 use Rattle.board.specs.Writes.{putMessage}
-use Rattle.board.proofs.Pieces.{outside-within, neither}
-use Rattle.board.proofs.Codec.{Small}
-use Rattle.board.specs.Places.{isQueued}
 use Rattle.paper.specs.declared.call.Call.{Call}
-use Rattle.paper.specs.declared.call.Call.the-variants.{Install, PostInterrupt, Find, CancelTask, Claim, Prepare, Release, Send, SendAndWait, Resend, ResendAndWait, Forward, ForwardAndWait, Return, ReturnAndWait, Receive, ReceiveAndWait, CancelMessage, WaitForInterrupt}
-use Rattle.paper.specs.declared.answer.Refusal.the-variants.{NothingToDeliver}
-use Rattle.paper.specs.declared.answer.Answer.the-variants.{Accepted, Refused}
-use Rattle.paper.specs.Rules.{present, running}
+use Rattle.paper.specs.declared.call.Call.the-variants.{Install, PostInterrupt, Find, CancelTask, Claim, Prepare, Release}
+use Rattle.paper.specs.declared.call.Call.the-variants.{Send, SendAndWait, Resend, ResendAndWait, Forward, ForwardAndWait, Return, ReturnAndWait}
+use Rattle.paper.specs.declared.call.Call.the-variants.{Receive, ReceiveAndWait, CancelMessage, WaitForInterrupt}
+use Rattle.paper.specs.Rules.{present, queue, order, running}
 use Rattle.paper.specs.Changes.{hold}
-use Rattle.paper.specs.Effects.{ownPrio, placeAt, addressed, send, emptied, cancelMessage, waits, install, cancelTask, lowestFree}
-use Rattle.paper.specs.Refusals.{Test, no3, no4, no5, no6, no7, no8, no7Install, no9, no10, no11, no12, no13, ownRow, Verdict, Go, Stop, lowest}
-use Rattle.paper.specs.Outcomes.{Undispatched, body}
-use Rattle.linked.specs.Linked.{Linked, Numbered}
+use Rattle.paper.specs.Effects.{placeAt, send, emptied, cancelMessage, waits, install, cancelTask, lowestFree, claim, release}
+use Rattle.paper.specs.Refusals.{Test, no3, no4, no5, no6, no7, no11, ownRow, Verdict, Go, Stop, lowest}
+use Rattle.paper.specs.Outcomes.{Undispatched, undispatched, body}
+use Rattle.linked.specs.Linked.{Numbered}
 use Rattle.linked.proofs.Running.{runner-says}
 use Rattle.kept.specs.Claims.{Sizes}
 use Rattle.kept.specs.Settled.{Settled}
-use Rattle.kept.proofs.Reading.{runner-passed, go-passed, task-passed}
-use Rattle.kept.proofs.Holding.{unqueued-out}
+use Rattle.kept.proofs.Reading.{runner-passed, go-passed, install-row, cancel-row, claim-row, queue-walked, order-walked}
+use Rattle.kept.proofs.Holding.{unqueued-out, held-numbered}
 use Rattle.kept.proofs.Waiting.{task-numbered}
-use Rattle.kept.proofs.Placing.{addressed-settled, sender-passed}
-use Rattle.kept.proofs.Taking.{queued-passed}
-use Rattle.queue.specs.Moves.{orderOut, queueOut, holdIn}
-use Rattle.queue.proofs.Queues.{length-queue-out, queue-out}
-use Rattle.queue.proofs.Order.{length-order-into, length-order-out, order-into, order-out}
-use Rattle.inner.specs.Stores.{Stored, bodyIn, placeAtIn, addressedIn, waitsIn}
-use Rattle.stored.proofs.Comes.{Comes, and-then, comes-same, comes-task, comes-message, comes-free, comes-held, comes-hold}
-use Rattle.stored.proofs.Bodies.{comes-emptied, comes-post, comes-wait, comes-waits, comes-placed, first-walked, comes-taken}
+use Rattle.kept.proofs.Placing.{sender-passed}
+use Rattle.kept.proofs.Taking.{cancel-message-row}
+use Rattle.stores.specs.Changes as changes
+use Rattle.stores.specs.Moves as moves
+use Rattle.stores.specs.Effects as stores
+use Rattle.stores.specs.Answers.{Stored, leaves, rests}
+use Rattle.stores.specs.Calls as calls
+use Rattle.stored.proofs.Comes.{Comes, and-then, comes-to, comes-same, comes-task, comes-message, comes-free, comes-held, comes-hold}
+use Rattle.stored.proofs.Links.{message-same}
+use Rattle.stored.proofs.Queues.{queue-out}
+use Rattle.stored.proofs.Order.{order-read, order-into, order-out}
+use Rattle.stored.proofs.Bodies.{comes-emptied, comes-post, comes-wait, comes-waits, comes-placed, first-read, comes-taken}
+
+pub record Body (z : Size) (c : ℕ) (d : Stored) (p : Undispatched) : Type 0 where
+  pub value : d .value ≡ p .value
+  pub bytes : Comes z (d .after) (p .board)
+  pub runs : calls.runsThen z c (d .stirs) (d .after) ≡ running z (p .board)
+
+-- ---- a row
+-- who is ready may have changed, and who runs is looked for
+stirring : {z : Size} {c v w : ℕ} {l : List ℕ} {b : Board} → v ≡ w → Comes z l b → Body z c (leaves v l) (undispatched w b)
+stirring {z = z} e h = record { value = e; bytes = h; runs = ap (running z) (h .1) }
+
+stirs : {z : Size} {c v : ℕ} {l : List ℕ} {b : Board} → Comes z l b → Body z c (leaves v l) (undispatched v b)
+stirs h = stirring refl h
+
+-- the same task runs
+resting : {z : Size} {c v w : ℕ} {l : List ℕ} {b : Board} → v ≡ w → Comes z l b → c ≡ running z b → Body z c (rests v l) (undispatched w b)
+resting e h r = record { value = e; bytes = h; runs = r }
 
 module _ (z : Size) (l : List ℕ) (e : length l ≡ total z) (a : Sizes z) (q : List ℕ) (queues : ℕ → List ℕ)
     (s : Settled z (boardOf z l) q queues) where
@@ -55,118 +77,90 @@ module _ (z : Size) (l : List ℕ) (e : length l ≡ total z) (a : Sizes z) (q :
   abbrev c : ℕ
   c = running z b
 
-  -- what a row that goes says of the running task
-  runs : (tests : List Test) → lowest (no3 c ∷ tests) ≡ Go → (present b c ≡ true) × (lowest tests ≡ Go)
-  runs tests g = let r = go-passed (no3 c) tests g in (runner-says z b (runner-passed c (r .0)) .0, r .1)
-
   numbered : (k : ℕ) → present b k ≡ true → Numbered (z .tasks) k
   numbered k h = task-numbered z b q queues s k h
 
-  -- ---- placing
-  -- a held message is in no queue
-  held-out : (m k r : ℕ) → place b m ≡ HeldBy (taskNo k) → Numbered (z .tasks) r → Out m (queues r)
-  held-out m k r h n = not-in-out m (queues r) (λ i. unqueued-out z b q queues s m (ap isQueued h) r n m i refl)
+  runner : c ≢ 0 → Numbered (z .tasks) c
+  runner n = numbered c (runner-says z b n .0)
 
-  forward-comes : (m r : ℕ) (tests : List Test) → lowest (no3 c ∷ no4 z m ∷ no5 b c m ∷ no6 z b r ∷ tests) ≡ Go
-      → Comes z (placeAtIn z l m r) (placeAt z b m r)
-  forward-comes m r tests g =
-      let p = sender-passed z b q queues a s m r tests g in
-      let n = numbered r (p .2) in
-      comes-placed z l e a (s .linked) m r n (held-out m c r (p .1) n)
+  -- ---- messages that are placed
+  -- as the record u, by a row that says that the running task holds it and that r is there
+  placed : (m : ℕ) (u : Message) (r : ℕ) (tests : List Test) → lowest (no3 c ∷ no4 z m ∷ no5 b c m ∷ no6 z b r ∷ tests) ≡ Go
+      → Comes z (stores.placeAt z l m u r) (placeAt z (withMessage b m u) m r)
+  placed m u r tests g =
+      let (runs, held, there, rest) = sender-passed z b q queues a s m r tests g in
+      let n = numbered r there in
+      let out : (y : ℕ) → In y (queues r) → y ≢ m = unqueued-out z b q queues s m (ap isQueued held) r n in
+      comes-placed z l e a (s .linked) m u r (held-numbered z b q queues s m c held) n
+      (not-in-out m (queue z b r) (λ i. out m (subst (In m) (queue-walked z b q queues s r n) i) refl))
 
-  send-comes : (m r : ℕ) → lowest (ownRow z b c (Send m r)) ≡ Go → Comes z (placeAtIn z (addressedIn z l c m r) m r) (send z b c m r)
-  send-comes m r g =
-      let p = sender-passed z b q queues a s m r [] g in
-      let n = numbered r (p .2) in
-      let t = message b m in
-      let f : Comes z (addressedIn z l c m r) (addressed b c m r) =
-      comes-message z l e m (withSptr (withRptr (withPrio t (ownPrio (t .prio) (task b c .prio))) r) (cond (eqb (t .sptr) 0) c (t .sptr))) in
-      let h = addressed-settled z b q queues a s m r c (p .1) (p .2) (runner-says z b (p .0) .0) in
-      and-then z (addressedIn z l c m r) _ _ (λ x. placeAt z x m r) f
-      (λ k. comes-placed z (addressedIn z l c m r) k a (subst (λ (x : Board). Linked z x q queues) (sym (f .1)) (h .linked)) m r n (held-out m c r (p .1) n))
+  -- addressed
+  sent : (m r : ℕ) → lowest (ownRow z b c (Send m r)) ≡ Go → Comes z (stores.send z l c m r) (send z b c m r)
+  sent m r g = placed m (stores.addressed b c m r) r [] g
 
-  and-waits : (k : List ℕ) (d : Board) → Comes z k d → Comes z (waitsIn z k c) (waits c d)
+  -- as it is
+  passed : (m r : ℕ) → lowest (ownRow z b c (Forward m r)) ≡ Go → Comes z (stores.passOn z l m r) (placeAt z b m r)
+  passed m r g =
+      comes-to z _ _ _ (placed m (message b m) r (no7 b m ∷ []) g)
+      (ap (λ (x : Board). placeAt z x m r) (message-same b m (message b m) refl))
+
+  and-waits : (k : List ℕ) (d : Board) → Comes z k d → Comes z (stores.waits z k c) (waits c d)
   and-waits k d h = and-then z k _ _ (waits c) h (λ f. comes-waits z k f c)
 
   -- ---- tasks
-  install-comes : (k t p sptr name : ℕ) → lowest (ownRow z b c (Install k t p sptr name)) ≡ Go
-      → Comes z (bodyIn z l c (Install k t p sptr name) .after) (install z b k t p sptr name)
-  install-comes k t p sptr name g =
-      let prio = go-passed (no7Install p) (no8 z b k ∷ no9 t ∷ []) g in
-      let room = neither (outside (z .tasks) k) (present b k) (go-passed (no8 z b k) (no9 t ∷ []) (prio .1) .0) in
-      let r : Task = record { stat = stored t; prio = p; link = 0; mptr = 0; sptr = sptr; name = name } in (
-        length-order-into z l k r ∙ e,
-        order-into z l e (a .limit) (a .tasks) (s .linked) k r (outside-within (z .tasks) k (room .0))
-            (not-in-out k q (λ i. true≢false (sym (s .linked .tasks .exact k .0 i) ∙ room .1))),
-      )
+  installed : (k t p sptr name : ℕ) → lowest (ownRow z b c (Install k t p sptr name)) ≡ Go
+      → Comes z (stores.install z l k t p sptr name) (install z b k t p sptr name)
+  installed k t p sptr name g =
+      let (prio, n, absent, stat) = install-row z b k t p g in
+      order-into z l e (a .limit) (a .tasks) (s .linked) k _ n
+      (not-in-out k (order z b) (λ i. true≢false
+      (sym (s .linked .tasks .exact k .0 (subst (In k) (order-walked z b q queues s (a .limit)) i)) ∙ absent)))
 
-  cancel-comes : (k : ℕ) → lowest (ownRow z b c (CancelTask k)) ≡ Go → Comes z (bodyIn z l c (CancelTask k) .after) (cancelTask z b k)
-  cancel-comes k g =
-      let meant = go-passed (no6 z b k) (no10 b k ∷ []) (runs (no6 z b k ∷ no10 b k ∷ []) g .1) in
-      let i = s .linked .tasks .exact k .1 (task-passed z b k (meant .0) .1) in
-      and-then z (orderOut z l k) _ _ (λ x. withTask x k noTask)
-      (length-order-out z l k ∙ e, order-out z l e (a .limit) (a .tasks) (s .linked) k i) (λ f. comes-task z (orderOut z l k) f k noTask)
+  cancelled : (k : ℕ) → lowest (ownRow z b c (CancelTask k)) ≡ Go → Comes z (stores.cancelTask z l k) (cancelTask z b k)
+  cancelled k g =
+      let (n, there, idle) = cancel-row z b c k g in
+      let i : In k (order z b) = subst (In k) (sym (order-walked z b q queues s (a .limit))) (s .linked .tasks .exact k .1 there) in
+      let d : List ℕ = moves.orderOut z l k in
+      and-then z d _ _ (λ x. withTask x k noTask) (order-out z l e (a .limit) (a .tasks) (s .linked) k i) (λ f. comes-task z d f k noTask)
 
   -- ---- messages
-  claim-comes : lowest (ownRow z b c Claim) ≡ Go → Comes z (bodyIn z l c Claim .after) (withPlace b (lowestFree b) (HeldBy (taskNo c)))
-  claim-comes g = comes-held z l e (lowestFree b) c (numbered c (runs (no11 b ∷ []) g .0)) (a .tasks)
+  released : (m : ℕ) → Comes z (stores.release z l m) (release b m)
+  released m =
+      let d : List ℕ = putMessage z l m noMessage in
+      and-then z d _ _ (λ x. withPlace x m Free) (comes-message z l e m noMessage) (λ f. comes-free z d f m)
 
-  release-comes : (m : ℕ) → Comes z (bodyIn z l c (Release m) .after) (withPlace (withMessage b m noMessage) m Free)
-  release-comes m = and-then z (putMessage z l m noMessage) _ _ (λ x. withPlace x m Free) (comes-message z l e m noMessage) (λ f. comes-free z _ f m)
+  taken-back : (m r : ℕ) → lowest (ownRow z b c (CancelMessage m r)) ≡ Go → Comes z (stores.cancelMessage z l c m r) (cancelMessage z b c m r)
+  taken-back m r g =
+      let (runs, n, queued) = cancel-message-row z b c m r g in
+      let i : In m (queue z b r) = subst (In m) (sym (queue-walked z b q queues s r n)) (s .linked .messages r n .exact m .1 queued) in
+      let d : List ℕ = moves.queueOut z l m r in
+      let k : List ℕ = changes.hold z d c m in
+      and-then z k _ _ (λ y. emptied y r)
+      (and-then z d _ _ (λ y. hold y c m) (queue-out z l e (a .limit) (s .linked) r n m i)
+      (λ f. comes-hold z d f c m (runner runs) (a .tasks))) (λ f. comes-emptied z k f r)
 
-  cancel-message-comes : (m r : ℕ) → lowest (ownRow z b c (CancelMessage m r)) ≡ Go
-      → Comes z (bodyIn z l c (CancelMessage m r) .after) (cancelMessage z b c m r)
-  cancel-message-comes m r g =
-      let x = runs (no4 z m ∷ no6 z b r ∷ no12 b m r ∷ no13 b c m ∷ []) g in
-      let t = go-passed (no4 z m) (no6 z b r ∷ no12 b m r ∷ no13 b c m ∷ []) (x .1) in
-      let u = go-passed (no6 z b r) (no12 b m r ∷ no13 b c m ∷ []) (t .1) in
-      let n = task-passed z b r (u .0) .0 in
-      let i = s .linked .messages r n .exact m .1 (queued-passed r (place b m) (go-passed (no12 b m r) (no13 b c m ∷ []) (u .1) .0)) in
-      and-then z (holdIn z (queueOut z l m r) c m) _ _ (λ y. emptied y r)
-      (and-then z (queueOut z l m r) _ _ (λ y. hold y c m) (length-queue-out z l m r ∙ e, queue-out z l e (a .limit) (s .linked) r n m i)
-      (λ f. comes-hold z (queueOut z l m r) f c m (numbered c (x .0)) (a .tasks)))
-      (λ f. comes-emptied z (holdIn z (queueOut z l m r) c m) f r)
+  there : lowest (ownRow z b c Receive) ≡ Go → present b c ≡ true
+  there g = runner-says z b (runner-passed c (go-passed (no3 c) [] g .0)) .0
 
   -- ---- every call
-  pub body-comes : (call : Call) → lowest (ownRow z b c call) ≡ Go → Comes z (bodyIn z l c call .after) (body z b c call .board)
-  body-comes (Install k t p sptr name) g = install-comes k t p sptr name g
-  body-comes (PostInterrupt k) g = comes-post z l e k
-  body-comes (Find name) g = comes-same z l e
-  body-comes (CancelTask k) g = cancel-comes k g
-  body-comes Claim g = claim-comes g
-  body-comes (Prepare m t p sptr) g = comes-message z l e m (withSptr (withPrio (withStat (message b m) t) p) sptr)
-  body-comes (Release m) g = release-comes m
-  body-comes (Send m r) g = send-comes m r g
-  body-comes (SendAndWait m r) g = and-waits _ _ (send-comes m r g)
-  body-comes (Resend m) g = forward-comes m (message b m .rptr) (no7 b m ∷ []) g
-  body-comes (ResendAndWait m) g = and-waits _ _ (forward-comes m (message b m .rptr) (no7 b m ∷ []) g)
-  body-comes (Forward m r) g = forward-comes m r (no7 b m ∷ []) g
-  body-comes (ForwardAndWait m r) g = and-waits _ _ (forward-comes m r (no7 b m ∷ []) g)
-  body-comes (Return m) g = forward-comes m (message b m .sptr) (no7 b m ∷ []) g
-  body-comes (ReturnAndWait m) g = and-waits _ _ (forward-comes m (message b m .sptr) (no7 b m ∷ []) g)
-  body-comes Receive g = comes-taken z l e a q queues s c (runs [] g .0)
-  body-comes ReceiveAndWait g = comes-waits z l e c
-  body-comes (CancelMessage m r) g = cancel-message-comes m r g
-  body-comes WaitForInterrupt g = comes-wait z l e c
-
-  -- the value that code hands back
-  pub body-value : (call : Call) → lowest (ownRow z b c call) ≡ Go → bodyIn z l c call .value ≡ body z b c call .value
-  body-value (Install k t p sptr name) g = refl
-  body-value (PostInterrupt k) g = refl
-  body-value (Find name) g = refl
-  body-value (CancelTask k) g = refl
-  body-value Claim g = refl
-  body-value (Prepare m t p sptr) g = refl
-  body-value (Release m) g = refl
-  body-value (Send m r) g = refl
-  body-value (SendAndWait m r) g = refl
-  body-value (Resend m) g = refl
-  body-value (ResendAndWait m) g = refl
-  body-value (Forward m r) g = refl
-  body-value (ForwardAndWait m r) g = refl
-  body-value (Return m) g = refl
-  body-value (ReturnAndWait m) g = refl
-  body-value Receive g = first-walked z l e a q queues s c (runs [] g .0)
-  body-value ReceiveAndWait g = refl
-  body-value (CancelMessage m r) g = refl
-  body-value WaitForInterrupt g = refl
+  pub body-comes : (call : Call) → lowest (ownRow z b c call) ≡ Go → Body z c (calls.body z l c call) (body z b c call)
+  body-comes (Install k t p sptr name) g = stirs (installed k t p sptr name g)
+  body-comes (PostInterrupt k) g = stirs (comes-post z l e k)
+  body-comes (Find name) g =
+      resting (ap (firstWith (λ k. eqb (task b k .name) name)) (order-read z l e (a .limit) (a .tasks) (s .linked))) (comes-same z l e) refl
+  body-comes (CancelTask k) g = stirs (cancelled k g)
+  body-comes Claim g = resting refl (comes-held z l e (lowestFree b) c (runner (claim-row b c g .0)) (a .tasks)) refl
+  body-comes (Prepare m t p sptr) g = resting refl (comes-message z l e m _) refl
+  body-comes (Release m) g = resting refl (released m) refl
+  body-comes (Send m r) g = stirs (sent m r g)
+  body-comes (SendAndWait m r) g = stirs (and-waits _ _ (sent m r g))
+  body-comes (Resend m) g = stirs (passed m (message b m .rptr) g)
+  body-comes (ResendAndWait m) g = stirs (and-waits _ _ (passed m (message b m .rptr) g))
+  body-comes (Forward m r) g = stirs (passed m r g)
+  body-comes (ForwardAndWait m r) g = stirs (and-waits _ _ (passed m r g))
+  body-comes (Return m) g = stirs (passed m (message b m .sptr) g)
+  body-comes (ReturnAndWait m) g = stirs (and-waits _ _ (passed m (message b m .sptr) g))
+  body-comes Receive g = stirring (first-read z l e a q queues s c (there g)) (comes-taken z l e a q queues s c (there g))
+  body-comes ReceiveAndWait g = stirs (comes-waits z l e c)
+  body-comes (CancelMessage m r) g = stirs (taken-back m r g)
+  body-comes WaitForInterrupt g = stirs (comes-wait z l e c)

@@ -2,24 +2,25 @@
 use mathlib.Core.Path.{_≡_, refl, ap, _∙_}
 use mathlib.Core.Bool.{Bool, true, false, cond}
 use mathlib.Core.List.{List}
-use Prim.Native.Nat.{ℕ, _≤_}
-use lib.ListN.{length}
+use Prim.Native.Nat.{ℕ, _%_, _≤_, _<_}
+use native.Mathlib.Nat.{mod-eq-of-lt}
+use native.Mathlib.Omega.{arith}
+use lib.ListN.{length, length-set}
 use Rattle.board.specs.declared.numbers.Size.{Size}
-use Rattle.board.specs.declared.status.Status.{Status}
 use Rattle.board.specs.declared.records.Task.{Task}
 use Rattle.board.specs.declared.records.Message.{Message}
 use Rattle.board.specs.declared.places.Place.{Place}
 use Rattle.board.specs.declared.places.Place.the-variants.{Free, HeldBy, QueuedAt}
 use Rattle.board.specs.Numbers.{taskNo}
+use Rattle.board.specs.Records.{taskBytes, messageBytes}
 use Rattle.board.specs.Places.{placeBytes}
-use Rattle.board.specs.Board.{Board, total, boardOf, placeArea, withTask, withMessage, withPlace}
-use Rattle.board.specs.Writes.{putTask, putMessage, putPlace}
+use Rattle.board.specs.Board.{Board, total, boardOf, taskArea, messageArea, placeArea, withFirst, withTask, withMessage, withPlace}
+use Rattle.board.specs.Writes.{putFirst, putTask, putMessage, putPlace}
 use Rattle.board.proofs.Pieces.{length-putIn}
-use Rattle.board.proofs.Written.{board-put-task, board-put-message, board-put-free, board-put-held, board-put-queued}
-use Rattle.paper.specs.Changes.{sets, clears, hold}
+use Rattle.board.proofs.Written.{board-put-first, board-put-task, board-put-message, board-put-free, board-put-held, board-put-queued}
+use Rattle.paper.specs.Changes.{hold}
 use Rattle.linked.specs.Linked.{Numbered}
-use Rattle.queue.specs.Moves.{setsIn, clearsIn, holdIn}
-use Rattle.queue.proofs.Effects.{length-put-task, length-put-message, length-sets, length-clears, length-hold, board-sets, board-clears, board-hold}
+use Rattle.stores.specs.Changes as stores
 
 -- the bytes l have the board's length and are the board b
 abbrev pub Comes : Size → List ℕ → Board → Type 0
@@ -29,6 +30,10 @@ Comes z l b = (length l ≡ total z) × (boardOf z l ≡ b)
 pub and-then : (z : Size) (l m : List ℕ) (b : Board) (f : Board → Board) → Comes z l b → (length l ≡ total z → Comes z m (f (boardOf z l)))
     → Comes z m (f b)
 and-then z l m b f c g = let r = g (c .0) in (r .0, r .1 ∙ ap f (c .1))
+
+-- and that this is another board
+pub comes-to : (z : Size) (l : List ℕ) (b d : Board) → Comes z l b → b ≡ d → Comes z l d
+comes-to z l b d c e = (c .0, c .1 ∙ e)
 
 -- one of two
 pub comes-cond : (z : Size) (t : Bool) (l m : List ℕ) (b d : Board) → Comes z l b → Comes z m d → Comes z (cond t l m) (cond t b d)
@@ -40,19 +45,16 @@ module _ (z : Size) (l : List ℕ) (e : length l ≡ total z) where
   pub comes-same : Comes z l (boardOf z l)
   comes-same = (e, refl)
 
-  -- ---- one field
-  pub comes-sets : (k bit : ℕ) → Comes z (setsIn z l k bit) (sets (boardOf z l) k bit)
-  comes-sets k bit = (length-sets z l k bit ∙ e, board-sets z l e k bit)
+  -- ---- byte 0, which has room for any task number; one record
+  pub comes-first : (k : ℕ) → k < 256 → Comes z (putFirst l (k % 256)) (withFirst (boardOf z l) k)
+  comes-first k h =
+      (length-set l 0 (k % 256) ∙ e, board-put-first z l (k % 256) (omega arith) ∙ ap (withFirst (boardOf z l)) (mod-eq-of-lt h))
 
-  pub comes-clears : (k bit : ℕ) → Comes z (clearsIn z l k bit) (clears (boardOf z l) k bit)
-  comes-clears k bit = (length-clears z l k bit ∙ e, board-clears z l e k bit)
-
-  -- ---- one record
   pub comes-task : (k : ℕ) (t : Task) → Comes z (putTask z l k t) (withTask (boardOf z l) k t)
-  comes-task k t = (length-put-task z l k t ∙ e, board-put-task z l e k t)
+  comes-task k t = (length-putIn (taskArea z) l k (taskBytes t) ∙ e, board-put-task z l e k t)
 
-  pub comes-message : (m : ℕ) (r : Message) → Comes z (putMessage z l m r) (withMessage (boardOf z l) m r)
-  comes-message m r = (length-put-message z l m r ∙ e, board-put-message z l e m r)
+  pub comes-message : (m : ℕ) (u : Message) → Comes z (putMessage z l m u) (withMessage (boardOf z l) m u)
+  comes-message m u = (length-putIn (messageArea z) l m (messageBytes u) ∙ e, board-put-message z l e m u)
 
   -- ---- one place
   length-place : (m : ℕ) (p : Place) → length (putPlace z l m p) ≡ total z
@@ -69,5 +71,9 @@ module _ (z : Size) (l : List ℕ) (e : length l ≡ total z) where
       → Comes z (putPlace z l m (QueuedAt (taskNo k))) (withPlace (boardOf z l) m (QueuedAt (taskNo k)))
   comes-queued m k n s = (length-place m (QueuedAt (taskNo k)), board-put-queued z l e m k (n .0) (n .1) s)
 
-  pub comes-hold : (c m : ℕ) → Numbered (z .tasks) c → z .tasks ≤ 63 → Comes z (holdIn z l c m) (hold (boardOf z l) c m)
-  comes-hold c m n s = (length-hold z l c m ∙ e, board-hold z l e c m n s)
+-- a message in a task's hands
+pub comes-hold : (z : Size) (l : List ℕ) → length l ≡ total z → (c m : ℕ) → Numbered (z .tasks) c → z .tasks ≤ 63
+    → Comes z (stores.hold z l c m) (hold (boardOf z l) c m)
+comes-hold z l e c m n s =
+    and-then z (stores.linkMessage z l m 0) _ _ (λ b. withPlace b m (HeldBy (taskNo c))) (comes-message z l e m _)
+    (λ f. comes-held z (stores.linkMessage z l m 0) f m c n s)

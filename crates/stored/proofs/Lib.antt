@@ -1,4 +1,8 @@
-pub mod Comes
-pub mod Bodies
-pub mod Calls
+mod Comes
+mod Behind
+mod Links
+mod Queues
+mod Order
+mod Bodies
+mod Calls
 pub mod Theorems
