@@ -39,7 +39,15 @@ small-sizes = record { tasks = lit≤ tt; limit = lit≤ tt; links = lit< tt }
 -- ---- a board that passes is settled, with nobody due a message who runs; and the other way round
 module _ (z : Size) (b : Board) (a : Sizes z) (f : Fits z b) where
   pub sound-settled : (s : Sound z b) → Settled z b (s .order) (s .queues)
-  sound-settled s = record { fits = f; byte1 = s .byte1; zeros = s .zeros; records = s .records; linked = s .linked; places = s .places; flags = s .flags }
+  sound-settled s = record {
+    fits = f;
+    byte1 = s .byte1;
+    zeros = s .zeros;
+    records = s .records;
+    linked = s .linked;
+    places = s .places;
+    flags = s .flags;
+  }
 
   -- the first ready one of the order is the running task
   runs-first : (q : List ℕ) (queues : ℕ → List ℕ) → Settled z b q queues → running z b ≡ firstWith (ready b) q
@@ -87,7 +95,8 @@ module _ (z : Size) (l : List ℕ) (call : Call) (a : Sizes z) (h : Bytes z l) (
       let f = fits-board z l h in
       let s = passing-sound z b a f (not-false (passes z b) (rules .0)) in
       let t = walked-settled z b a f (s .order) (s .queues) (sound-settled z b a f s) in
-      dispatched z (orderAfter b (order z b) (touched b (running z b) call .move)) l (queuesAfter b (s .queues) (touched b (running z b) call .move)) (d .value) (d .board) a
+      let move = touched b (running z b) call .move in
+      dispatched z (orderAfter b (order z b) move) l (queuesAfter b (s .queues) move) (d .value) (d .board) a
       (body-settles z b (order z b) (s .queues) call a w t (sound-runner z b a f s) (rules .1))
 
   -- it is not refused

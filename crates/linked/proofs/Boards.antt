@@ -81,7 +81,8 @@ module _ (z : Size) (b : Board) (tasks : length (b .tasks) ≡ z .tasks) (places
           runner = runner;
         }),
         λ s. let w = linked-walked (s .order) (s .queues) (s .linked) in
-            (((((((s .byte1, s .zeros), s .records), w .tasks), s .places), w .messages), s .flags), rw (linked-walks (s .order) (s .queues) (s .linked) .0) (s .runner)),
+            let e = linked-walks (s .order) (s .queues) (s .linked) .0 in
+            (((((((s .byte1, s .zeros), s .records), w .tasks), s .places), w .messages), s .flags), rw e (s .runner)),
       )
 
   -- ---- a board that passes
