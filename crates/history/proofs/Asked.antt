@@ -58,7 +58,7 @@ module _ (z : Size) (b : Board) (q : List ℕ) (f : ℕ → List ℕ) (h : kept.
   pub is-where : (m : ℕ) → IsWhere (place b m) (whoseOf (place b m))
   is-where m = somewhere (place b m) (λ y e.
       let n = placed-numbered b m (λ d. true≢false (sym (ap isFree (sym e ∙ d)))) in
-      subst (PlaceGood z b m) e (h .places m (rw (h .fits .places) at n)))
+      subst (PlaceGood z b m) e (h .regular .places m (rw (h .fits .places) at n)))
 
   lowest-place : (g : Whose → Bool) (t : Place → Bool) → ((m : ℕ) → g (whoseOf (place b m)) ≡ t (place b m))
       → lowestFrom (λ m. g (whoseOf (place b m))) 1 (z .messages) ≡ firstOf (which t 1 (b .places))
@@ -98,7 +98,7 @@ module _ (z : Size) (b : Board) (q : List ℕ) (f : ℕ → List ℕ) (a : Sizes
 
     -- which MPTR is
     pub first-mptr : plain.first (plainOf b l s n) k ≡ task b k .mptr
-    first-mptr = asked-first ∙ sym (chain-first (nextMessage b) (task b k .mptr) (f k) (h .linked .messages k d .chain))
+    first-mptr = asked-first ∙ sym (chain-first (nextMessage b) (task b k .mptr) (f k) (h .regular .linked .messages k d .chain))
 
     -- and the first that is walked
     pub first-walked : plain.first (plainOf b l s n) k ≡ firstOf (queue z b k)
@@ -107,12 +107,12 @@ module _ (z : Size) (b : Board) (q : List ℕ) (f : ℕ → List ℕ) (a : Sizes
   -- ---- where the entries stand
   -- one installed is present
   pub entry-present : (x : Entry) → In x l → present b (x .id) ≡ true
-  entry-present x i = h .linked .tasks .exact (x .id) .0 (in-names l q (x .id) (w .order) .1 (x, i, refl))
+  entry-present x i = h .regular .linked .tasks .exact (x .id) .0 (in-names l q (x .id) (w .order) .1 (x, i, refl))
 
   -- one placed is queued there
   pub entry-queued : (x : Entry) → In x s → place b (x .id) ≡ QueuedAt (taskNo (x .at))
   entry-queued x i =
       let d = w .homes x i in
-      h .linked .messages (x .at) d .exact (x .id) .0
+      h .regular .linked .messages (x .at) d .exact (x .id) .0
       (in-names (keep (isAt (x .at)) s) (f (x .at)) (x .id) (w .queues (x .at) d) .1
       (x, in-keep (isAt (x .at)) x s .1 (i, eq-eqb (x .at) (x .at) refl), refl))

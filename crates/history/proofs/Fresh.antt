@@ -125,22 +125,24 @@ module _ (z : Size) where
   fresh-settled : Settled z b [] (λ k. [])
   fresh-settled = record {
     fits = fits-board z (blank z) fresh-bytes;
-    byte1 = zeros 1;
-    zeros = zeros-all (b .zeros) (zeros-take 2 (drop 2 (blank z)) (zeros-drop 2 (blank z) zeros));
-    records = λ k d. inl (fresh-task k);
-    linked = record {
-      tasks = record {
-        chain = zeros 0;
-        exact = λ y. ((λ i. absurd i), λ e. true≢false (sym e ∙ ap isThere (fresh-task y)));
-        sorted = tt;
+    regular = record {
+      byte1 = zeros 1;
+      zeros = zeros-all (b .zeros) (zeros-take 2 (drop 2 (blank z)) (zeros-drop 2 (blank z) zeros));
+      records = λ k d. inl (fresh-task k);
+      linked = record {
+        tasks = record {
+          chain = zeros 0;
+          exact = λ y. ((λ i. absurd i), λ e. true≢false (sym e ∙ ap isThere (fresh-task y)));
+          sorted = tt;
+        };
+        messages = λ k d. record {
+          chain = ap (λ (t : Task). t .mptr) (fresh-task k);
+          exact = λ y. ((λ i. absurd i), λ e. true≢false (sym (ap isQueued e) ∙ ap isQueued (fresh-place y)));
+          sorted = tt;
+        };
       };
-      messages = λ k d. record {
-        chain = ap (λ (t : Task). t .mptr) (fresh-task k);
-        exact = λ y. ((λ i. absurd i), λ e. true≢false (sym (ap isQueued e) ∙ ap isQueued (fresh-place y)));
-        sorted = tt;
-      };
+      places = λ m d. subst (PlaceGood z b m) (sym (fresh-place m)) (fresh-message m);
     };
-    places = λ m d. subst (PlaceGood z b m) (sym (fresh-place m)) (fresh-message m);
     flags = λ k d.
         subst Flagged (sym (fresh-task k)) (flags-ready (stored 0) (0 ≡ 0) refl refl (λ e. absurd (true≢false (sym e))));
   }

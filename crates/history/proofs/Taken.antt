@@ -57,7 +57,7 @@ module _ (z : Size) (b : Board) (q : List ℕ) (f : ℕ → List ℕ) (a : Sizes
     rest = restOf (queue z b c)
 
     first-queued : (m : ℕ) → firstOf (f c) ≡ suc m → place b (suc m) ≡ QueuedAt (taskNo c)
-    first-queued m e = h .linked .messages c d .exact (suc m) .0 (step (f c) e)
+    first-queued m e = h .regular .linked .messages c d .exact (suc m) .0 (step (f c) e)
       where
         step : (g : List ℕ) → firstOf g ≡ suc m → In (suc m) g
         step [] e = absurd (omega arith)
@@ -74,7 +74,7 @@ module _ (z : Size) (b : Board) (q : List ℕ) (f : ℕ → List ℕ) (a : Sizes
         none : f c ≡ []
         none =
             sym (chain-one (nextMessage b) (task b c .mptr) [] (f c) (sym (first-mptr z b q f a h l s n w c d) ∙ e)
-            (h .linked .messages c d .chain))
+            (h .regular .linked .messages c d .chain))
 
         same : (k : ℕ) → changed f c (restOf (f c)) k ≡ f k
         same k =

@@ -62,7 +62,7 @@ module _ (z : Size) (b : Board) (q : List ℕ) (queues : ℕ → List ℕ) (a : 
   -- a task with an empty queue has no message queued
   none-queued : Numbered (z .tasks) k → task b k .mptr ≡ 0 → (m : ℕ) → place b m ≢ QueuedAt (taskNo k)
   none-queued n e m p =
-      let l = s .linked .messages k n in
+      let l = s .regular .linked .messages k n in
       let c = chain-one (nextMessage b) (task b k .mptr) [] (queues k) e (l .chain) in
       subst (In m) (sym c) (l .exact m .1 p)
 
@@ -76,7 +76,7 @@ module _ (z : Size) (b : Board) (q : List ℕ) (queues : ℕ → List ℕ) (a : 
     gone = withTask b k noTask
 
     once : Once q
-    once = chain-once (nextTask b) (b .first) q (s .linked .tasks .chain)
+    once = chain-once (nextTask b) (b .first) q (s .regular .linked .tasks .chain)
 
     same-others : (y : ℕ) → y ≢ k → task gone y ≡ task b y
     same-others y n = task-other b k y noTask n
@@ -87,16 +87,16 @@ module _ (z : Size) (b : Board) (q : List ℕ) (queues : ℕ → List ℕ) (a : 
 
     listed-exact : (y : ℕ) → In y (without k q) ↔ (present gone y ≡ true)
     listed-exact y = (
-      (λ i. let r = in-without k y q once .0 i in ap isThere (same-others y (r .1)) ∙ s .linked .tasks .exact y .0 (r .0)),
+      (λ i. let r = in-without k y q once .0 i in ap isThere (same-others y (r .1)) ∙ s .regular .linked .tasks .exact y .0 (r .0)),
       λ p. in-without k y q once .1
-          (s .linked .tasks .exact y .1 (sym (ap isThere (same-others y (none-there y p))) ∙ p), none-there y p),
+          (s .regular .linked .tasks .exact y .1 (sym (ap isThere (same-others y (none-there y p))) ∙ p), none-there y p),
     )
 
     listed-sorted : Sorted (taskNumber gone) (without k q)
     listed-sorted =
         sorted-stays (taskNumber b) (taskNumber gone) (without k q)
         (λ y i. ap (λ (x : Task). number (x .prio)) (same-others y (in-without k y q once .0 i .1)))
-        (sorted-without (taskNumber b) k q (s .linked .tasks .sorted))
+        (sorted-without (taskNumber b) k q (s .regular .linked .tasks .sorted))
 
     -- who has a message is another
     another : (m j : ℕ) → (place b m ≡ HeldBy (taskNo j)) ⊎ (place b m ≡ QueuedAt (taskNo j)) → j ≢ k
@@ -114,7 +114,7 @@ module _ (z : Size) (b : Board) (q : List ℕ) (queues : ℕ → List ℕ) (a : 
         (settled-order z b q queues a s k noTask (without k q)
         (record { stat = lit< tt; prio = lit< tt; link = lit< tt; mptr = lit< tt; sptr = lit< tt; name = lit< tt }) (inl refl)
         (flags-ready (stored 0) (0 ≡ 0) refl refl (λ e. absurd (true≢false (sym e)))) (sym empty)
-        (λ m n. good-stays z b gone m (place b m) refl (λ j w p. ap isThere (same-others j (another m j w)) ∙ p) (s .places m n))
+        (λ m n. good-stays z b gone m (place b m) refl (λ j w p. ap isThere (same-others j (another m j w)) ∙ p) (s .regular .places m n))
         (once-without k q once) listed-exact listed-sorted))
 
   -- so its row has it

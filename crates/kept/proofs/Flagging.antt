@@ -9,7 +9,6 @@ use Prim.Native.Nat.{ℕ, _-_, _<_}
 use native.Mathlib.Decide.{ℕ-discrete}
 use lib.Bits.{bitAnd}
 use lib.Dec.{lit<}
-use Rattle.links.specs.Chain.{All}
 use Rattle.board.specs.declared.numbers.Size.{Size}
 use Rattle.board.specs.declared.status.Status.{Status}
 use Rattle.board.specs.declared.records.Task.{Task}
@@ -22,8 +21,8 @@ use Rattle.paper.specs.Rules.{isThere, present, nextTask, nextMessage, taskNumb
 use Rattle.paper.specs.Changes.{sets, clears}
 use Rattle.paper.specs.Effects.{post, waitInterrupt}
 use Rattle.paper.specs.Refusals.{no3, no6, ownRow, Go, lowest}
-use Rattle.linked.specs.Linked.{Numbered, Linked}
-use Rattle.linked.specs.Sound.{Proper, PlaceGood, Flags}
+use Rattle.linked.specs.Linked.{Numbered}
+use Rattle.linked.specs.Sound.{Proper, Regular, Flags}
 use Rattle.linked.proofs.Running.{present-numbered, runner-says}
 use Rattle.kept.specs.Settled.{Byte, FitsTask, Fits, Settled}
 use Rattle.kept.proofs.Reading.{cond-holds, nth-cases, task-put, task-other, task-alike, fits-task}
@@ -76,11 +75,7 @@ Flagged t = Flags (t .stat) (t .mptr ≡ 0)
 -- ---- R1 to R6 but for the flags of task k
 pub record SettledBut (z : Size) (b : Board) (order : List ℕ) (queues : ℕ → List ℕ) (k : ℕ) : Type 0 where
   pub fits : Fits z b
-  pub byte1 : b .byte1 ≡ 0
-  pub zeros : All (λ x. x ≡ 0) (b .zeros)
-  pub records : (j : ℕ) → Numbered (z .tasks) j → Lawful (task b j)
-  pub linked : Linked z b order queues
-  pub places : (m : ℕ) → Numbered (z .messages) m → PlaceGood z b m (place b m)
+  pub regular : Regular z b order queues
   pub flags : (j : ℕ) → Numbered (z .tasks) j → j ≢ k → Flagged (task b j)
 
 module _ (z : Size) (b : Board) (order : List ℕ) (queues : ℕ → List ℕ) (k : ℕ) where
@@ -88,11 +83,7 @@ module _ (z : Size) (b : Board) (order : List ℕ) (queues : ℕ → List ℕ) (
   pub settled-but : Settled z b order queues → SettledBut z b order queues k
   settled-but s = record {
     fits = s .fits;
-    byte1 = s .byte1;
-    zeros = s .zeros;
-    records = s .records;
-    linked = s .linked;
-    places = s .places;
+    regular = s .regular;
     flags = λ j h n. s .flags j h;
   }
 
@@ -100,11 +91,7 @@ module _ (z : Size) (b : Board) (order : List ℕ) (queues : ℕ → List ℕ) (
   pub but-settled : SettledBut z b order queues k → Flagged (task b k) → Settled z b order queues
   but-settled s f = record {
     fits = s .fits;
-    byte1 = s .byte1;
-    zeros = s .zeros;
-    records = s .records;
-    linked = s .linked;
-    places = s .places;
+    regular = s .regular;
     flags = λ j h. step j h (ℕ-discrete j k);
   }
     where
@@ -120,7 +107,7 @@ Good s = Byte (s .0) × (has s TCBB ≡ true) × (has s BIT5 ≡ false)
 module _ (z : Size) (b : Board) (order : List ℕ) (queues : ℕ → List ℕ) (k : ℕ) (p : present b k ≡ true) where
   -- the task has one that is proper
   proper-old : SettledBut z b order queues k → Proper (task b k)
-  proper-old h = present-proper (task b k) (h .records k (rw (h .fits .tasks) at (present-numbered b k p))) p
+  proper-old h = present-proper (task b k) (h .regular .records k (rw (h .fits .tasks) at (present-numbered b k p))) p
 
   module _ (s : Status) (g : Good s) where
     abbrev t : Task
@@ -142,19 +129,21 @@ module _ (z : Size) (b : Board) (order : List ℕ) (queues : ℕ → List ℕ) (
     pub but-stat : SettledBut z b order queues k → SettledBut z (withTask b k (taskWithStat (task b k) s)) order queues k
     but-stat h = record {
       fits = fits-task z b (h .fits) k t (fits-new (h .fits .task k));
-      byte1 = h .byte1;
-      zeros = h .zeros;
-      records = λ j n. nth-cases Lawful noTask (b .tasks) k j t (λ e. inr (proper-new (proper-old h))) (h .records j n);
-      linked = record {
-        tasks = listing-stays (nextTask b) (nextTask c) (taskNumber b) (taskNumber c) (b .first) order _ _
-            (λ y i. task-alike (λ (x : Task). x .link) b k y t refl)
-            (λ y i. task-alike (λ (x : Task). number (x .prio)) b k y t refl)
-            (λ y. ((λ e. same-present y ∙ e), λ e. sym (same-present y) ∙ e)) (h .linked .tasks);
-        messages = λ j n.
-            listing-start (nextMessage b) (messageNumber b) (task b j .mptr) (task c j .mptr) (queues j) _
-            (task-alike (λ (x : Task). x .mptr) b k j t refl) (h .linked .messages j n);
+      regular = record {
+        byte1 = h .regular .byte1;
+        zeros = h .regular .zeros;
+        records = λ j n. nth-cases Lawful noTask (b .tasks) k j t (λ e. inr (proper-new (proper-old h))) (h .regular .records j n);
+        linked = record {
+          tasks = listing-stays (nextTask b) (nextTask c) (taskNumber b) (taskNumber c) (b .first) order _ _
+              (λ y i. task-alike (λ (x : Task). x .link) b k y t refl)
+              (λ y i. task-alike (λ (x : Task). number (x .prio)) b k y t refl)
+              (λ y. ((λ e. same-present y ∙ e), λ e. sym (same-present y) ∙ e)) (h .regular .linked .tasks);
+          messages = λ j n.
+              listing-start (nextMessage b) (messageNumber b) (task b j .mptr) (task c j .mptr) (queues j) _
+              (task-alike (λ (x : Task). x .mptr) b k j t refl) (h .regular .linked .messages j n);
+        };
+        places = λ m n. good-stays z b c m (place b m) refl (λ j w e. same-present j ∙ e) (h .regular .places m n);
       };
-      places = λ m n. good-stays z b c m (place b m) refl (λ j w e. same-present j ∙ e) (h .places m n);
       flags = λ j n d. subst Flagged (sym (task-other b k j t d)) (h .flags j n d);
     }
 

@@ -42,11 +42,8 @@ settled-mail : (z : Size) (b : Board) (order : List ℕ) (queues : ℕ → List 
     → ((m : ℕ) → Numbered (z .messages) m → PlaceGood z d m (place d m)) → Settled z d order queues
 settled-mail z b order queues s ms ps f l g = record {
   fits = f;
-  byte1 = s .byte1;
-  zeros = s .zeros;
-  records = s .records;
-  linked = record { tasks = s .linked .tasks; messages = l };
-  places = g;
+  regular = let r = s .regular in
+      record { byte1 = r .byte1; zeros = r .zeros; records = r .records; linked = record { tasks = r .linked .tasks; messages = l }; places = g };
   flags = s .flags;
 }
 
@@ -55,7 +52,7 @@ module _ (z : Size) (b : Board) (order : List ℕ) (queues : ℕ → List ℕ) (
   -- it is no member of any
   pub unqueued-out : isQueued (place b m) ≡ false → (k : ℕ) → Numbered (z .tasks) k → (y : ℕ) → In y (queues k) → y ≢ m
   unqueued-out u k h y i e =
-      true≢false (sym (ap isQueued (s .linked .messages k h .exact y .0 i)) ∙ ap (λ (x : ℕ). isQueued (place b x)) e ∙ u)
+      true≢false (sym (ap isQueued (s .regular .linked .messages k h .exact y .0 i)) ∙ ap (λ (x : ℕ). isQueued (place b x)) e ∙ u)
 
   -- its place written
   pub settled-place : (p : Place) → isQueued (place b m) ≡ false → isQueued p ≡ false → FitsPlace z p → PlaceGood z b m p
@@ -63,9 +60,9 @@ module _ (z : Size) (b : Board) (order : List ℕ) (queues : ℕ → List ℕ) (
   settled-place p u v f g =
       settled-mail z b order queues s (b .messages) (put (b .places) m p) (fits-place z b (s .fits) m p f)
       (λ k h. listing-stays (nextMessage b) (nextMessage b) (messageNumber b) (messageNumber b) (task b k .mptr) (queues k) _ _
-      (λ y i. refl) (λ y i. refl) (same k) (s .linked .messages k h))
+      (λ y i. refl) (λ y i. refl) (same k) (s .regular .linked .messages k h))
       (λ j h. good-stays z b (withPlace b m p) j (place (withPlace b m p) j) refl (λ k w t. t)
-      (nth-cases (PlaceGood z b j) Free (b .places) m j p (λ e. subst (λ (x : ℕ). PlaceGood z b x p) (sym e) g) (s .places j h)))
+      (nth-cases (PlaceGood z b j) Free (b .places) m j p (λ e. subst (λ (x : ℕ). PlaceGood z b x p) (sym e) g) (s .regular .places j h)))
     where
       same : (k y : ℕ) → (place b y ≡ QueuedAt (taskNo k)) ↔ (place (withPlace b m p) y ≡ QueuedAt (taskNo k))
       same k y = (
@@ -83,7 +80,7 @@ module _ (z : Size) (b : Board) (order : List ℕ) (queues : ℕ → List ℕ) (
 
     -- and R4 says of it
     pub held-good : PlaceGood z b m (HeldBy (taskNo c))
-    held-good = subst (PlaceGood z b m) e (s .places m held-numbered)
+    held-good = subst (PlaceGood z b m) e (s .regular .places m held-numbered)
 
     -- ---- its record written
     module _ (u : Message) (f : FitsMessage u) (p : Pointers z u) (l : u .link ≡ 0) where
@@ -98,7 +95,7 @@ module _ (z : Size) (b : Board) (order : List ℕ) (queues : ℕ → List ℕ) (
 
       good-each : (j : ℕ) → Numbered (z .messages) j → Dec (j ≡ m) → PlaceGood z d j (place b j)
       good-each j h (yes q) = subst (λ (x : ℕ). PlaceGood z d x (place b x)) (sym q) (subst (PlaceGood z d m) (sym e) good-new)
-      good-each j h (no n) = good-stays z b d j (place b j) (message-other b m j u n) (λ k w t. t) (s .places j h)
+      good-each j h (no n) = good-stays z b d j (place b j) (message-other b m j u n) (λ k w t. t) (s .regular .places j h)
 
       -- LINK 0, and task numbers for RPTR and SPTR
       pub settled-record : Settled z (withMessage b m u) order queues
@@ -107,7 +104,7 @@ module _ (z : Size) (b : Board) (order : List ℕ) (queues : ℕ → List ℕ) (
           (λ k h. listing-stays (nextMessage b) (nextMessage d) (messageNumber b) (messageNumber d) (task b k .mptr) (queues k) _ _
           (λ y i. ap (λ (x : Message). x .link) (same-queued k h y i))
           (λ y i. ap (λ (x : Message). number (x .prio)) (same-queued k h y i)) (λ y. ((λ q. q), λ q. q))
-          (s .linked .messages k h))
+          (s .regular .linked .messages k h))
           (λ j h. good-each j h (ℕ-discrete j m))
 
 -- ---- claim
@@ -128,7 +125,7 @@ module _ (z : Size) (b : Board) (order : List ℕ) (queues : ℕ → List ℕ) (
   settled-claim c p h =
       let m : ℕ = lowestFree b in
       let r = lowest-free b h in
-      let k : PlaceGood z b m Free = subst (PlaceGood z b m) (r .1) (s .places m (rw (s .fits .places) at (r .0))) in
+      let k : PlaceGood z b m Free = subst (PlaceGood z b m) (r .1) (s .regular .places m (rw (s .fits .places) at (r .0))) in
       settled-place z b order queues s m (HeldBy (taskNo c)) (ap isQueued (r .1)) refl (held-fits c p) (free-held z b m c p k)
 
   -- so its row has it

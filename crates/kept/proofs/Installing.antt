@@ -137,24 +137,26 @@ module _ (z : Size) (b : Board) (order : List ℕ) (queues : ℕ → List ℕ) (
   pub settled-order : Settled z (withOrder (withTask b k t) q) q queues
   settled-order = record {
     fits = fits-relinked;
-    byte1 = relink-keeps (λ (e : Board). e .byte1) linkTask (λ e x y. refl) mid q ∙ s .byte1;
-    zeros = subst (All (λ x. x ≡ 0)) (sym (relink-keeps (λ (e : Board). e .zeros) linkTask (λ e x y. refl) mid q)) (s .zeros);
-    records = λ j n. lawful-relinked j (nth-cases Lawful noTask (b .tasks) k j t (λ e. lawful) (s .records j n));
-    linked = record {
-      tasks = record {
-        chain = relink-chain nextTask linkTask (λ e y. Numbered (length (e .tasks)) y) link-numbered link-read link-other mid q
-            once (not-in-out 0 q (λ i. omega (arith, listed 0 i .0))) (all-of _ q listed);
-        exact = λ y. ((λ i. same-present y ∙ exact y .0 i), λ p. exact y .1 (sym (same-present y) ∙ p));
-        sorted = sorted-stays (taskNumber mid) (taskNumber new) q
-            (λ y i. ap (λ (x : Task). number (x .prio)) (relinked mid q y)) sorted;
+    regular = record {
+      byte1 = relink-keeps (λ (e : Board). e .byte1) linkTask (λ e x y. refl) mid q ∙ s .regular .byte1;
+      zeros = subst (All (λ x. x ≡ 0)) (sym (relink-keeps (λ (e : Board). e .zeros) linkTask (λ e x y. refl) mid q)) (s .regular .zeros);
+      records = λ j n. lawful-relinked j (nth-cases Lawful noTask (b .tasks) k j t (λ e. lawful) (s .regular .records j n));
+      linked = record {
+        tasks = record {
+          chain = relink-chain nextTask linkTask (λ e y. Numbered (length (e .tasks)) y) link-numbered link-read link-other mid q
+              once (not-in-out 0 q (λ i. omega (arith, listed 0 i .0))) (all-of _ q listed);
+          exact = λ y. ((λ i. same-present y ∙ exact y .0 i), λ p. exact y .1 (sym (same-present y) ∙ p));
+          sorted = sorted-stays (taskNumber mid) (taskNumber new) q
+              (λ y i. ap (λ (x : Task). number (x .prio)) (relinked mid q y)) sorted;
+        };
+        messages = λ j n.
+            listing-start (nextMessage new) (messageNumber new) (task b j .mptr) (task new j .mptr) (queues j) _ (same-mptr j)
+            (same-queue mid q (task b j .mptr) j (queues j) (s .regular .linked .messages j n));
       };
-      messages = λ j n.
-          listing-start (nextMessage new) (messageNumber new) (task b j .mptr) (task new j .mptr) (queues j) _ (same-mptr j)
-          (same-queue mid q (task b j .mptr) j (queues j) (s .linked .messages j n));
+      places = λ m n.
+          subst (PlaceGood z new m) (sym (same-place mid q m))
+          (good-stays z mid new m (place b m) (same-message mid q m) (λ j w p. same-present j ∙ p) (good m n));
     };
-    places = λ m n.
-        subst (PlaceGood z new m) (sym (same-place mid q m))
-        (good-stays z mid new m (place b m) (same-message mid q m) (λ j w p. same-present j ∙ p) (good m n));
     flags = λ j n.
         subst Flagged (sym (relinked mid q j)) (nth-cases Flagged noTask (b .tasks) k j t (λ e. flagged) (s .flags j n));
   }
@@ -189,18 +191,18 @@ module _ (z : Size) (b : Board) (q : List ℕ) (queues : ℕ → List ℕ) (a : 
     reads-back = task-put b k installed (rw (← s .fits .tasks) at n)
 
     fresh : (y : ℕ) → In y q → y ≢ k
-    fresh y i e = true≢false (sym (s .linked .tasks .exact y .0 i) ∙ ap (present b) e ∙ absent)
+    fresh y i e = true≢false (sym (s .regular .linked .tasks .exact y .0 i) ∙ ap (present b) e ∙ absent)
 
     same-old : (y : ℕ) → In y q → task now y ≡ task b y
     same-old y i = task-other b k y installed (fresh y i)
 
     in-present : (y : ℕ) → In y (k ∷ q) → present now y ≡ true
     in-present y (inl e) = ap (present now) e ∙ ap isThere reads-back ∙ proper .there
-    in-present y (inr i) = ap isThere (same-old y i) ∙ s .linked .tasks .exact y .0 i
+    in-present y (inr i) = ap isThere (same-old y i) ∙ s .regular .linked .tasks .exact y .0 i
 
     present-in : (y : ℕ) → Dec (y ≡ k) → present now y ≡ true → In y (k ∷ q)
     present-in y (yes e) h = inl e
-    present-in y (no g) h = inr (s .linked .tasks .exact y .1 (sym (ap isThere (task-other b k y installed g)) ∙ h))
+    present-in y (no g) h = inr (s .regular .linked .tasks .exact y .1 (sym (ap isThere (task-other b k y installed g)) ∙ h))
 
     listed-exact : (y : ℕ) → In y (insert goes k q) ↔ (present now y ≡ true)
     listed-exact y = (
@@ -214,11 +216,11 @@ module _ (z : Size) (b : Board) (q : List ℕ) (queues : ℕ → List ℕ) (a : 
         λ y i. ap (λ (x : Task). number (x .prio)) (same-old y i) in
         subst (Sorted (taskNumber now)) (insert-stays _ goes k q (λ y i. ap (goesBefore true (number p)) (numbers y i)))
         (sorted-insert (taskNumber now) true (number p) k q (ap (λ (x : Task). number (x .prio)) reads-back)
-        (sorted-stays (taskNumber b) (taskNumber now) q numbers (s .linked .tasks .sorted)))
+        (sorted-stays (taskNumber b) (taskNumber now) q numbers (s .regular .linked .tasks .sorted)))
 
     good-old : (m : ℕ) → Numbered (z .messages) m → PlaceGood z now m (place b m)
     good-old m h =
-        good-stays z b now m (place b m) refl (λ j w e. in-present j (inr (s .linked .tasks .exact j .1 e))) (s .places m h)
+        good-stays z b now m (place b m) refl (λ j w e. in-present j (inr (s .regular .linked .tasks .exact j .1 e))) (s .regular .places m h)
 
     -- an absent task gets a proper record that waits for nothing and is due no message
     pub settled-install : has (stored stat) WAIT ≡ false → has (stored stat) IWAT ≡ false → has (stored stat) MHBS ≡ false
@@ -228,9 +230,9 @@ module _ (z : Size) (b : Board) (q : List ℕ) (queues : ℕ → List ℕ) (a : 
         (sym (order-walked z b q queues s (a .limit)))
         (settled-order z b q queues a s k installed (insert goes k q) fits (inr proper)
         (flags-ready (stored stat) (0 ≡ 0) w i (λ e. absurd (true≢false (sym e ∙ m))))
-        (ap (λ (x : Task). x .mptr) (sym (absent-none (task b k) (s .records k n) absent))) good-old
+        (ap (λ (x : Task). x .mptr) (sym (absent-none (task b k) (s .regular .records k n) absent))) good-old
         (once-insert goes k q (not-in-out k q (λ j. fresh k j refl))
-        (chain-once (nextTask b) (b .first) q (s .linked .tasks .chain)))
+        (chain-once (nextTask b) (b .first) q (s .regular .linked .tasks .chain)))
         listed-exact listed-sorted)
 
   -- so its row has it

@@ -128,7 +128,7 @@ module _ (z : Size) (b : Board) (order : List ℕ) (queues : ℕ → List ℕ) (
   -- ---- R2
   lawful : Lawful receiver
   lawful =
-      let t = present-proper (task b r) (settled .records r receiver-numbered) (h .there) in
+      let t = present-proper (task b r) (settled .regular .records r receiver-numbered) (h .there) in
       inr (record { there = t .there; bit5 = t .bit5; odd = t .odd; low = t .low; high = t .high })
 
   -- ---- R3
@@ -137,7 +137,7 @@ module _ (z : Size) (b : Board) (order : List ℕ) (queues : ℕ → List ℕ) (
       listing-stays (nextTask b) (nextTask after) (taskNumber b) (taskNumber after) (b .first) order _ _
       (λ k i. task-alike (λ (t : Task). t .link) b r k receiver refl)
       (λ k i. task-alike (λ (t : Task). number (t .prio)) b r k receiver refl)
-      (λ k. ((λ e. present-after k ∙ e), λ e. sym (present-after k) ∙ e)) (settled .linked .tasks)
+      (λ k. ((λ e. present-after k ∙ e), λ e. sym (present-after k) ∙ e)) (settled .regular .linked .tasks)
 
   -- ---- R4
   written : message after m ≡ message (withMessage b m w) m
@@ -156,11 +156,11 @@ module _ (z : Size) (b : Board) (order : List ℕ) (queues : ℕ → List ℕ) (
       let v : withLink (message after y) 0 ≡ withLink (message b y) 0 =
       message-after (λ v. withLink v 0 ≡ withLink (message b y) 0) y (λ g. absurd (d g)) (requeued-alike b r q y) in
       subst (PlaceGood z after y) (sym e)
-      (good-queued z b after y (taskNo r) v present-after (subst (PlaceGood z b y) e (settled .places y n)))
+      (good-queued z b after y (taskNo r) v present-after (subst (PlaceGood z b y) e (settled .regular .places y n)))
   good-other y n d (inr o) =
       good-stays z b after y (place b y)
       (message-after (λ v. v ≡ message b y) y (λ g. absurd (d g)) (requeued-out b r q y o))
-      (λ k e t. present-after k ∙ t) (settled .places y n)
+      (λ k e t. present-after k ∙ t) (settled .regular .places y n)
 
   good-after : (y : ℕ) → Numbered (z .messages) y → PlaceGood z after y (place after y)
   good-after y n = place-after (PlaceGood z after y) y (λ e. rw e good-it) (λ d. good-other y n d (in-dec y q))
@@ -206,7 +206,7 @@ module _ (z : Size) (b : Board) (order : List ℕ) (queues : ℕ → List ℕ) (
     other-after : Numbered (z .tasks) k
         → Listing (nextMessage after) (messageNumber after) (task b k .mptr) (queues k) (λ y. place after y ≡ QueuedAt (taskNo k))
     other-after n =
-        let l = settled .linked .messages k n in
+        let l = settled .regular .linked .messages k n in
         listing-stays (nextMessage b) (nextMessage after) (messageNumber b) (messageNumber after) (task b k .mptr) (queues k) _ _
         (λ y i. link-stays y (l .exact y .0 i)) (λ y i. number-after y) place-stays l
 
@@ -219,11 +219,13 @@ module _ (z : Size) (b : Board) (order : List ℕ) (queues : ℕ → List ℕ) (
   but-after : SettledBut z after order (changed queues r q) r
   but-after = record {
     fits = fits-after;
-    byte1 = settled .byte1;
-    zeros = settled .zeros;
-    records = λ k n. nth-cases Lawful noTask (b .tasks) r k receiver (λ e. lawful) (settled .records k n);
-    linked = record { tasks = tasks-after; messages = λ k n. messages-after k n (ℕ-discrete k r) };
-    places = good-after;
+    regular = record {
+      byte1 = settled .regular .byte1;
+      zeros = settled .regular .zeros;
+      records = λ k n. nth-cases Lawful noTask (b .tasks) r k receiver (λ e. lawful) (settled .regular .records k n);
+      linked = record { tasks = tasks-after; messages = λ k n. messages-after k n (ℕ-discrete k r) };
+      places = good-after;
+    };
     flags = λ k n d. subst Flagged (sym (task-other b r k receiver d)) (settled .flags k n);
   }
 

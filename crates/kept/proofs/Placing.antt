@@ -96,7 +96,7 @@ module _ (z : Size) (b : Board) (order : List ℕ) (queues : ℕ → List ℕ) (
 
   place-move : Moved z b r q m w (QueuedAt (taskNo r))
   place-move =
-      let l = settled .linked .messages r receiver in
+      let l = settled .regular .linked .messages r receiver in
       let n : Numbered (z .messages) m = loose .numbered in
       let f = settled .fits .message m .prio in record {
         there = there;
@@ -124,7 +124,7 @@ module _ (z : Size) (b : Board) (order : List ℕ) (queues : ℕ → List ℕ) (
       let d = moved-settled z b order queues sizes settled r q m w (QueuedAt (taskNo r)) place-move in
       let n = rw (← settled .fits .places) at (loose .numbered) in
       rw place-board (woken-settled z after order (changed queues r q) r (task b r .mptr ≡ 0) d
-      (queued-starts z after order (changed queues r q) (d .but .linked) r m receiver (place-put b m (QueuedAt (taskNo r)) n)))
+      (queued-starts z after order (changed queues r q) (d .but .regular .linked) r m receiver (place-put b m (QueuedAt (taskNo r)) n)))
 
   -- one that doesn't wait keeps its status
   place-stat : (k : ℕ) → has (task b k .stat) WAIT ≡ false → task (placeAt z b m r) k .stat ≡ task b k .stat
@@ -180,7 +180,7 @@ module _ (z : Size) (b : Board) (order : List ℕ) (queues : ℕ → List ℕ) (
   -- its priority number isn't 127
   addressed-low : number (message (addressed b c m r) m .prio) ≢ 127
   addressed-low =
-      let h = present-proper (task b c) (settled .records c (numbered c runs)) runs in
+      let h = present-proper (task b c) (settled .regular .records c (numbered c runs)) runs in
       rw (addressed-reads z b order queues settled m r c held) (cond-holds (λ (p : ℕ). number p ≢ 127) (eqb (number (u .prio)) 127) _ _
       (λ e d. omega (arith, h .high)) (λ e. eqb-false (number (u .prio)) 127 e))
 

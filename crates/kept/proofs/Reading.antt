@@ -212,14 +212,14 @@ module _ (z : Size) (b : Board) (q : List ℕ) (queues : ℕ → List ℕ) (s : 
   pub order-walked : z .tasks ≤ z .messages → order z b ≡ q
   order-walked l =
       let n : length (b .tasks) ≤ z .messages = omega (arith, s .fits .tasks) in
-      listing-walk noTask isThere (b .tasks) refl (λ k. Iff·rfl) n q (s .linked .tasks)
+      listing-walk noTask isThere (b .tasks) refl (λ k. Iff·rfl) n q (s .regular .linked .tasks)
 
   -- the walk from MPTR visits the queue
   pub queue-walked : (k : ℕ) → Numbered (z .tasks) k → queue z b k ≡ queues k
   queue-walked k h =
       let n : length (b .places) ≤ z .messages = omega (arith, s .fits .places) in
       listing-walk Free (isQueuedAt k) (b .places) refl (λ m. says-isQueuedAt k (place b m)) n (queues k)
-      (s .linked .messages k h)
+      (s .regular .linked .messages k h)
 
 -- ---- a row that refuses nothing
 abbrev stops : Verdict → Bool

@@ -58,14 +58,14 @@ module _ (z : Size) (b : Board) (order : List ℕ) (queues : ℕ → List ℕ) (
   numbered = rw (settled .fits .places) at (placed-numbered b m (queued-placed b m r queued))
 
   good : PlaceGood z b m (QueuedAt (taskNo r))
-  good = subst (PlaceGood z b m) queued (settled .places m numbered)
+  good = subst (PlaceGood z b m) queued (settled .regular .places m numbered)
 
   receiver : Numbered (z .tasks) r
   receiver = task-numbered z b order queues settled r (good .3)
 
   out-move : Moved z b r q m w (HeldBy (taskNo c))
   out-move =
-      let l = settled .linked .messages r receiver in
+      let l = settled .regular .linked .messages r receiver in
       let d : Once (queues r) = chain-once (nextMessage b) (task b r .mptr) (queues r) (l .chain) in
       let n = task-numbered z b order queues settled c there in record {
         there = good .3;
@@ -103,7 +103,7 @@ pub first-left : (z : Size) (b : Board) (order : List ℕ) (queues : ℕ → Lis
     → Numbered (z .tasks) c → without (task b c .mptr) (queues c) ≡ restOf (queues c)
 first-left z b order queues s c n =
     ap (λ (m : ℕ). without m (queues c))
-    (chain-first (nextMessage b) (task b c .mptr) (queues c) (s .linked .messages c n .chain))
+    (chain-first (nextMessage b) (task b c .mptr) (queues c) (s .regular .linked .messages c n .chain))
     ∙ rest-without (queues c)
 
 -- no status changes
@@ -128,7 +128,7 @@ module _ (z : Size) (b : Board) (order : List ℕ) (queues : ℕ → List ℕ) (
     take-pending : Pending z (takeFirst z b c) order (changed queues c (restOf (queues c))) c (task b c .mptr ≡ 0)
     take-pending =
         let m : ℕ = firstOf (queues c) in
-        let l = settled .linked .messages c taker in
+        let l = settled .regular .linked .messages c taker in
         let d = out-settled z b order queues sizes settled m c c (l .exact m .0 (first-in (queues c) (l .chain))) there in
         subst (λ (q : List ℕ). Pending z (hold (withQueue b c (restOf q)) c (firstOf q)) order
         (changed queues c (restOf (queues c))) c (task b c .mptr ≡ 0)) (sym walked)
@@ -217,4 +217,4 @@ module _ (z : Size) (b : Board) (order : List ℕ) (queues : ℕ → List ℕ) (
       Settled z (emptied (hold (withQueue b r (without m q)) c m) r) order (changed queues r (without m (queues r))))
       (sym (queue-walked z b order queues settled r n))
       (emptied-settled z _ order (changed queues r (without m (queues r))) r (task b r .mptr ≡ 0) d
-      (queue-awake _ (task b r .mptr ≡ 0) (d .flags) (queued-starts z b order queues (settled .linked) r m n e)))
+      (queue-awake _ (task b r .mptr ≡ 0) (d .flags) (queued-starts z b order queues (settled .regular .linked) r m n e)))

@@ -39,15 +39,7 @@ small-sizes = record { tasks = lit≤ tt; limit = lit≤ tt; links = lit< tt }
 -- ---- a board that passes is settled, with nobody due a message who runs; and the other way round
 module _ (z : Size) (b : Board) (a : Sizes z) (f : Fits z b) where
   pub sound-settled : (s : Sound z b) → Settled z b (s .order) (s .queues)
-  sound-settled s = record {
-    fits = f;
-    byte1 = s .byte1;
-    zeros = s .zeros;
-    records = s .records;
-    linked = s .linked;
-    places = s .places;
-    flags = s .flags;
-  }
+  sound-settled s = record { fits = f; regular = s .regular; flags = s .flags }
 
   -- the first ready one of the order is the running task
   runs-first : (q : List ℕ) (queues : ℕ → List ℕ) → Settled z b q queues → running z b ≡ firstWith (ready b) q
@@ -70,11 +62,7 @@ module _ (z : Size) (b : Board) (a : Sizes z) (f : Fits z b) where
       says-passes z b (f .tasks) (f .places) (a .limit) .1 (record {
         order = q;
         queues = queues;
-        byte1 = h .byte1;
-        zeros = h .zeros;
-        records = h .records;
-        linked = h .linked;
-        places = h .places;
+        regular = h .regular;
         flags = h .flags;
         runner = ap (λ (c : ℕ). has (task b c .stat) MHBS) (sym (runs-first q queues h)) ∙ m;
       })
@@ -122,7 +110,7 @@ module _ (z : Size) (l : List ℕ) (call : Call) (a : Sizes z) (h : Bytes z l) (
       let t = went e in
       let f = t .settled .fits in
       subst (λ (o : Outcome). Passes (o .after)) (sym (t .ends)) (
-        bytes-fit z (t .board) f (t .settled .zeros),
+        bytes-fit z (t .board) f (t .settled .regular .zeros),
         ap (passes z) (board-bytes z (t .board) f) ∙ settled-passes z (t .board) a f _ (t .queues) (t .settled) (t .runner),
       )
   passes-after (Stop q) e p = (h, p)

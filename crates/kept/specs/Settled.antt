@@ -5,7 +5,6 @@
 --   Fitting call               the call's arguments are words and bytes, as the code's types have it; AllFit calls: so of each
 -- Assumes nothing.
 use mathlib.Core.Path.{_≡_}
-use mathlib.Core.Logic.{_⊎_}
 use mathlib.Core.List.{List}
 use Prim.Native.Nat.{ℕ, _<_}
 use lib.ListN.{length}
@@ -13,13 +12,12 @@ use Rattle.links.specs.Chain.{All}
 use Rattle.board.specs.declared.numbers.Size.{Size}
 use Rattle.board.specs.declared.records.Task.{Task}
 use Rattle.board.specs.declared.records.Message.{Message}
-use Rattle.board.specs.Records.{noTask}
 use Rattle.board.specs.Places.{placeOf, placeByte}
 use Rattle.board.specs.Board.{Board, task, message, place}
 use Rattle.paper.specs.declared.call.Call.{Call}
 use Rattle.paper.specs.Arguments.{argumentsOf}
-use Rattle.linked.specs.Linked.{Numbered, Linked}
-use Rattle.linked.specs.Sound.{Proper, PlaceGood, Flags}
+use Rattle.linked.specs.Linked.{Numbered}
+use Rattle.linked.specs.Sound.{Regular, Flags}
 
 abbrev pub Byte : ℕ → Type 0
 Byte x = x < 256
@@ -55,11 +53,7 @@ pub record Fits (z : Size) (b : Board) : Type 0 where
 
 pub record Settled (z : Size) (b : Board) (order : List ℕ) (queues : ℕ → List ℕ) : Type 0 where
   pub fits : Fits z b
-  pub byte1 : b .byte1 ≡ 0  -- R1
-  pub zeros : All (λ x. x ≡ 0) (b .zeros)  -- R1
-  pub records : (k : ℕ) → Numbered (z .tasks) k → (task b k ≡ noTask) ⊎ Proper (task b k)  -- R2
-  pub linked : Linked z b order queues  -- R3, R5
-  pub places : (m : ℕ) → Numbered (z .messages) m → PlaceGood z b m (place b m)  -- R4
+  pub regular : Regular z b order queues  -- R1 to R5
   pub flags : (k : ℕ) → Numbered (z .tasks) k → Flags (task b k .stat) (task b k .mptr ≡ 0)  -- R6
 
 abbrev pub Fitting : Call → Type 0

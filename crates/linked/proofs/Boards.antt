@@ -72,24 +72,27 @@ module _ (z : Size) (b : Board) (tasks : length (b .tasks) ≡ z .tasks) (places
         (λ (((((((byte1, zeros), records), listed), places), lists), flags), runner). record {
           order = order z b;
           queues = queue z b;
-          byte1 = byte1;
-          zeros = zeros;
-          records = records;
-          linked = record { tasks = listed; messages = lists };
-          places = places;
+          regular = record {
+            byte1 = byte1;
+            zeros = zeros;
+            records = records;
+            linked = record { tasks = listed; messages = lists };
+            places = places;
+          };
           flags = flags;
           runner = runner;
         }),
-        λ s. let w = linked-walked (s .order) (s .queues) (s .linked) in
-            let e = linked-walks (s .order) (s .queues) (s .linked) .0 in
-            (((((((s .byte1, s .zeros), s .records), w .tasks), s .places), w .messages), s .flags), rw e (s .runner)),
+        λ s. let w = linked-walked (s .order) (s .queues) (s .regular .linked) in
+            let e = linked-walks (s .order) (s .queues) (s .regular .linked) .0 in
+            let r = s .regular in
+            (((((((r .byte1, r .zeros), r .records), w .tasks), r .places), w .messages), s .flags), rw e (s .runner)),
       )
 
   -- ---- a board that passes
   module _ (e : passes z b ≡ true) where
     -- the links list what is walked
     pub passes-linked : Linked z b (order z b) (queue z b)
-    passes-linked = let s = says-passes .0 e in linked-walked (s .order) (s .queues) (s .linked)
+    passes-linked = let s = says-passes .0 e in linked-walked (s .order) (s .queues) (s .regular .linked)
 
     -- in the queue of k stands just what is queued at k
     pub in-queue : (m k : ℕ) → Numbered (z .tasks) k → In m (queue z b k) ↔ (place b m ≡ QueuedAt (taskNo k))
@@ -120,4 +123,4 @@ module _ (z : Size) (b : Board) (tasks : length (b .tasks) ≡ z .tasks) (places
 
     -- and each has a place
     pub passes-whereabouts : (m : ℕ) → Numbered (z .messages) m → Whereabouts z b m
-    passes-whereabouts m h = good-whereabouts m (place b m) refl (says-passes .0 e .places m h)
+    passes-whereabouts m h = good-whereabouts m (place b m) refl (says-passes .0 e .regular .places m h)

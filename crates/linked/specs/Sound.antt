@@ -1,8 +1,9 @@
 -- R1 to R7 as document 01 words them, with no test that computes: what a board that passes is. A reader must believe this file.
---   Proper t             what R2 asks of a present task
---   PlaceGood z b m p    what R4 asks of the message m where its place is p
---   Flags s Empty        what R6 asks of a status; Empty says that the queue is empty
---   Sound z b            R1 to R7
+--   Proper t                   what R2 asks of a present task
+--   PlaceGood z b m p          what R4 asks of the message m where its place is p
+--   Flags s Empty              what R6 asks of a status; Empty says that the queue is empty
+--   Regular z b order queues   R1 to R5; the links list the tasks as order and the messages of task k as queues k
+--   Sound z b                  R1 to R7
 -- Assumes nothing.
 use mathlib.Core.Path.{_≡_}
 use mathlib.Core.Logic.{_⊎_}
@@ -47,13 +48,16 @@ pub record Flags (s : Status) (Empty : Type 0) : Type 0 where
   pub parked : has s IWAT ≡ true → (has s INTQ ≡ false) × (has s MHBS ≡ false)
   pub due : has s MHBS ≡ true → Empty → ⊥
 
-pub record Sound (z : Size) (b : Board) : Type 0 where
-  pub order : List ℕ
-  pub queues : ℕ → List ℕ
+pub record Regular (z : Size) (b : Board) (order : List ℕ) (queues : ℕ → List ℕ) : Type 0 where
   pub byte1 : b .byte1 ≡ 0  -- R1
   pub zeros : All (λ x. x ≡ 0) (b .zeros)  -- R1
   pub records : (k : ℕ) → Numbered (z .tasks) k → (task b k ≡ noTask) ⊎ Proper (task b k)  -- R2
   pub linked : Linked z b order queues  -- R3, R5
   pub places : (m : ℕ) → Numbered (z .messages) m → PlaceGood z b m (place b m)  -- R4
+
+pub record Sound (z : Size) (b : Board) : Type 0 where
+  pub order : List ℕ
+  pub queues : ℕ → List ℕ
+  pub regular : Regular z b order queues  -- R1 to R5
   pub flags : (k : ℕ) → Numbered (z .tasks) k → Flags (task b k .stat) (task b k .mptr ≡ 0)  -- R6
   pub runner : has (task b (firstWith (ready b) order) .stat) MHBS ≡ false  -- R7

@@ -86,10 +86,10 @@ module _ (z : Size) (l : List ℕ) (e : length l ≡ total z) (a : Sizes z) (ord
 
   -- MPTR is the first of the queue that is walked, and read so
   pub first-walked : first ≡ firstOf (queue z from c)
-  first-walked = queue-first z l e (a .limit) (s .linked) c taker
+  first-walked = queue-first z l e (a .limit) (s .regular .linked) c taker
 
   pub first-read : onBoard (z .messages) first ≡ firstOf (queue z from c)
-  first-read = queue-read z l e (a .limit) (s .linked) c taker
+  first-read = queue-read z l e (a .limit) (s .regular .linked) c taker
 
   first-in : first ≢ 0 → In first (queue z from c)
   first-in n = first-member (queue z from c) first first-walked n
@@ -97,7 +97,7 @@ module _ (z : Size) (l : List ℕ) (e : length l ≡ total z) (a : Sizes z) (ord
   -- where there is one it is a message of the board
   pub first-numbered : first ≢ 0 → outside (z .messages) first ≡ false
   first-numbered n =
-      let p = queue-numbered z l e (a .limit) (s .linked) c taker first (first-in n) in within-outside (z .messages) first (p .0) (p .1)
+      let p = queue-numbered z l e (a .limit) (s .regular .linked) c taker first (first-in n) in within-outside (z .messages) first (p .0) (p .1)
 
   pub comes-taken : Comes z (stores.takeFirst z l c) (takeFirst z from c)
   comes-taken = go (ℕ-discrete first 0)
@@ -115,5 +115,5 @@ module _ (z : Size) (l : List ℕ) (e : length l ≡ total z) (a : Sizes z) (ord
       go (no n) =
           subst (λ (t : Bool). Comes z (taken t) (takeFirst z from c)) (sym (first-numbered n))
           (subst (λ (x : ℕ). Comes z (taken false) (hold (withQueue from c (restOf (queue z from c))) c x)) first-walked
-          (and-then z k _ _ (λ x. hold x c first) (queue-next z l e (a .limit) (s .linked) c taker (first-in n))
+          (and-then z k _ _ (λ x. hold x c first) (queue-next z l e (a .limit) (s .regular .linked) c taker (first-in n))
           (λ f. comes-hold z k f c first taker (a .tasks))))

@@ -91,7 +91,7 @@ module _ (z : Size) (l : List ℕ) (e : length l ≡ total z) (a : Sizes z) (q :
       let (runs, held, there, rest) = sender-passed z b q queues a s m r tests g in
       let n = numbered r there in
       let out : (y : ℕ) → In y (queues r) → y ≢ m = unqueued-out z b q queues s m (ap isQueued held) r n in
-      comes-placed z l e a (s .linked) m u r (held-numbered z b q queues s m c held) n
+      comes-placed z l e a (s .regular .linked) m u r (held-numbered z b q queues s m c held) n
       (not-in-out m (queue z b r) (λ i. out m (subst (In m) (queue-walked z b q queues s r n) i) refl))
 
   -- addressed
@@ -112,16 +112,16 @@ module _ (z : Size) (l : List ℕ) (e : length l ≡ total z) (a : Sizes z) (q :
       → Comes z (stores.install z l k t p sptr name) (install z b k t p sptr name)
   installed k t p sptr name g =
       let (prio, n, absent, stat) = install-row z b k t p g in
-      order-into z l e (a .limit) (a .tasks) (s .linked) k _ n
+      order-into z l e (a .limit) (a .tasks) (s .regular .linked) k _ n
       (not-in-out k (order z b) (λ i. true≢false
-      (sym (s .linked .tasks .exact k .0 (subst (In k) (order-walked z b q queues s (a .limit)) i)) ∙ absent)))
+      (sym (s .regular .linked .tasks .exact k .0 (subst (In k) (order-walked z b q queues s (a .limit)) i)) ∙ absent)))
 
   cancelled : (k : ℕ) → lowest (ownRow z b c (CancelTask k)) ≡ Go → Comes z (stores.cancelTask z l k) (cancelTask z b k)
   cancelled k g =
       let (n, there, idle) = cancel-row z b c k g in
-      let i : In k (order z b) = subst (In k) (sym (order-walked z b q queues s (a .limit))) (s .linked .tasks .exact k .1 there) in
+      let i : In k (order z b) = subst (In k) (sym (order-walked z b q queues s (a .limit))) (s .regular .linked .tasks .exact k .1 there) in
       let d : List ℕ = moves.orderOut z l k in
-      and-then z d _ _ (λ x. withTask x k noTask) (order-out z l e (a .limit) (a .tasks) (s .linked) k i) (λ f. comes-task z d f k noTask)
+      and-then z d _ _ (λ x. withTask x k noTask) (order-out z l e (a .limit) (a .tasks) (s .regular .linked) k i) (λ f. comes-task z d f k noTask)
 
   -- ---- messages
   released : (m : ℕ) → Comes z (stores.release z l m) (release b m)
@@ -132,11 +132,11 @@ module _ (z : Size) (l : List ℕ) (e : length l ≡ total z) (a : Sizes z) (q :
   taken-back : (m r : ℕ) → lowest (ownRow z b c (CancelMessage m r)) ≡ Go → Comes z (stores.cancelMessage z l c m r) (cancelMessage z b c m r)
   taken-back m r g =
       let (runs, n, queued) = cancel-message-row z b c m r g in
-      let i : In m (queue z b r) = subst (In m) (sym (queue-walked z b q queues s r n)) (s .linked .messages r n .exact m .1 queued) in
+      let i : In m (queue z b r) = subst (In m) (sym (queue-walked z b q queues s r n)) (s .regular .linked .messages r n .exact m .1 queued) in
       let d : List ℕ = moves.queueOut z l m r in
       let k : List ℕ = changes.hold z d c m in
       and-then z k _ _ (λ y. emptied y r)
-      (and-then z d _ _ (λ y. hold y c m) (queue-out z l e (a .limit) (s .linked) r n m i)
+      (and-then z d _ _ (λ y. hold y c m) (queue-out z l e (a .limit) (s .regular .linked) r n m i)
       (λ f. comes-hold z d f c m (runner runs) (a .tasks))) (λ f. comes-emptied z k f r)
 
   there : lowest (ownRow z b c Receive) ≡ Go → present b c ≡ true
@@ -147,7 +147,7 @@ module _ (z : Size) (l : List ℕ) (e : length l ≡ total z) (a : Sizes z) (q :
   body-comes (Install k t p sptr name) g = stirs (installed k t p sptr name g)
   body-comes (PostInterrupt k) g = stirs (comes-post z l e k)
   body-comes (Find name) g =
-      resting (ap (firstWith (λ k. eqb (task b k .name) name)) (order-read z l e (a .limit) (a .tasks) (s .linked))) (comes-same z l e) refl
+      resting (ap (firstWith (λ k. eqb (task b k .name) name)) (order-read z l e (a .limit) (a .tasks) (s .regular .linked))) (comes-same z l e) refl
   body-comes (CancelTask k) g = stirs (cancelled k g)
   body-comes Claim g = resting refl (comes-held z l e (lowestFree b) c (runner (claim-row b c g .0)) (a .tasks)) refl
   body-comes (Prepare m t p sptr) g = resting refl (comes-message z l e m _) refl
