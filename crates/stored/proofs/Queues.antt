@@ -134,9 +134,10 @@ module _ (z : Size) (l : List ℕ) (e : length l ≡ total z) (fuel : z .tasks �
       placed-once =
           let d : Board = withMessage b m u in
           let f : ℕ = withFifo (u .prio) in
+          let q′ : List ℕ = insert goes m (queue z b r) in
           let at : Board → Board = λ x. woken (withPlace x m (QueuedAt (taskNo r))) r in
           (λ i. at (marked m (withFifo (reads i .prio)) (withQueue d r (goes-in i))))
-          ∙ ap at (marked-queue d m f r (insert goes m (queue z b r)) ∙ ap (λ (x : Board). withQueue x r (insert goes m (queue z b r))) (message-again b m (λ t. withPrio t f) u))
+          ∙ ap at (marked-queue d m f r q′ ∙ ap (λ (x : Board). withQueue x r q′) (message-again b m (λ t. withPrio t f) u))
 
   -- one is taken out
   pub queue-out : (m : ℕ) → In m (queue z b r) → Comes z (moves.queueOut z l m r) (withQueue b r (without m (queue z b r)))

@@ -19,7 +19,9 @@ use Rattle.board.specs.Numbers.{outside, onBoard}
 use Rattle.board.specs.Status.{MHBS, has}
 use Rattle.board.specs.Board.{boardOf, task, message}
 use Rattle.paper.specs.declared.call.Call.{Call}
-use Rattle.paper.specs.declared.call.Call.the-variants.{Install, PostInterrupt, Find, CancelTask, Claim, Prepare, Release, Send, SendAndWait, Resend, ResendAndWait, Forward, ForwardAndWait, Return, ReturnAndWait, Receive, ReceiveAndWait, CancelMessage, WaitForInterrupt}
+use Rattle.paper.specs.declared.call.Call.the-variants.{Install, PostInterrupt, Find, CancelTask, Claim, Prepare, Release}
+use Rattle.paper.specs.declared.call.Call.the-variants.{Send, SendAndWait, Resend, ResendAndWait, Forward, ForwardAndWait, Return, ReturnAndWait}
+use Rattle.paper.specs.declared.call.Call.the-variants.{Receive, ReceiveAndWait, CancelMessage, WaitForInterrupt}
 use Rattle.paper.specs.declared.answer.Refusal.the-variants.{NothingToDeliver}
 use Rattle.paper.specs.declared.answer.Answer.the-variants.{Accepted, Refused}
 use Rattle.paper.specs.Rules.{running}

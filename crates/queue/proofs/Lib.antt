@@ -1,2 +1,0 @@
-mod Seeks
-mod Stores
