@@ -1,18 +1,21 @@
 -- Single fields of a message, and a place byte that says 'queued at task k', as the check reads them. Assumes nothing.
 use mathlib.Core.Path.{_≡_, refl, sym, ap, _∙_}
 use mathlib.Core.Logic.{_≢_}
-use mathlib.Core.Bool.{Bool, true, false, true≢false, _||_}
+use mathlib.Core.Bool.{Bool, true, false, cond, true≢false, _||_}
 use mathlib.Core.List.{List}
 use Prim.Native.Nat.{ℕ, _+_, _-_, _*_, _≤_, _<_}
 use native.Mathlib.Omega.{arith}
 use lib.Dec.{eqb, ltb}
 use lib.ListN.{getD}
-use borrow.Author.Tests.{eqb-true, eqb-false, eq-eqb, ltb-true}
+use borrow.Author.Tests.{eqb-true, eqb-false, eq-eqb, ne-eqb, ltb-true}
 use Rattle.board.specs.declared.numbers.Size.{Size}
+use Rattle.board.specs.declared.numbers.MessageMeant.{MessageMeant}
 use Rattle.board.specs.declared.records.Message.{Message}
 use Rattle.board.specs.declared.places.Place.{Place}
 use Rattle.board.specs.declared.places.Place.the-variants.{Free, HeldBy, QueuedAt, Nowhere}
-use Rattle.board.specs.Numbers.{outside, taskNo}
+use Rattle.board.specs.Numbers.{outside, taskNo, messageMeant}
+use Rattle.lent.specs.declared.bytes.MessageLink.the-variants.{End}
+use Rattle.lent.specs.Links.{onward, messageLink}
 use Rattle.board.specs.Records.{wordAt, noMessage}
 use Rattle.board.specs.Places.{placeOf, isQueuedAt}
 use Rattle.board.specs.Board.{boardOf, message}
@@ -81,3 +84,14 @@ module _ (z : Size) (k p : ℕ) where
 -- the code holds the task k as n
 pub says-number : (z : Size) (k n p : ℕ) (x : Bool) → n ≡ k → x ≡ isQueuedAt n (placeOf z p) → x ≡ isQueuedAt k (placeOf z p)
 says-number z k n p x e h = h ∙ ap (λ (j : ℕ). isQueuedAt j (placeOf z p)) e
+
+-- ---- LINK of a message is w, which the code holds as v
+module _ (z : Size) (w v : ℕ) (e : v ≡ w) where
+  pub link-ends : v ≡ 0 → End ≡ messageLink z w
+  link-ends h = rw (eq-eqb w 0 (sym e ∙ h))
+
+  -- it isn't 0: the message that it means, if any
+  pub link-leads : v ≢ 0 → (x : MessageMeant) → x ≡ messageMeant z v → onward x ≡ messageLink z w
+  link-leads h x g =
+      ap onward (g ∙ ap (messageMeant z) e)
+      ∙ ap (λ (t : Bool). cond t End (onward (messageMeant z w))) (sym (ne-eqb w 0 (λ i. h (e ∙ i))))

@@ -9,6 +9,7 @@ ghost use Rattle.board.specs.Numbers.{taskMeant, messageMeant, numberOfTask};
 ghost use Rattle.board.specs.Records.{wordAt};
 ghost use Rattle.board.specs.Places.{placeOf, isQueuedAt};
 ghost use Rattle.board.specs.Board.{total, boardOf, task, message, place};
+ghost use Rattle.lent.specs.Links.{messageLink};
 ghost use Rattle.board.specs.Writes.{putFirst, putTask, putMessage, putPlace};
 use board::numbers::MessageMeant;
 use board::numbers::MsgNo;
@@ -19,6 +20,13 @@ use board::places::Place;
 use board::records::Message;
 use board::records::Task;
 use board::status::Status;
+
+// A link of a message, told apart from one that leads beyond the board.
+pub enum MessageLink {
+    On(MsgNo),
+    End,
+    Beyond,
+}
 
 // The byte at i, 0 past the end.
 pub fn byte(l: &[u8], i: usize) -> u8
@@ -225,12 +233,20 @@ pub fn next_message(z: Size, l: &[u8], m: MsgNo) -> MessageMeant
     MsgNo::meant(z, link_of(z, l, m))
 }
 
-// LINK is 0: the last message of the queue.
-pub fn last_message(z: Size, l: &[u8], m: MsgNo) -> bool
+// Where LINK leads: on to a message, to the end where it is 0, or beyond the board.
+pub fn link_from(z: Size, l: &[u8], m: MsgNo) -> MessageLink
     requires { ⌜ total z ≤ length (now l) ⌝ }
-    ensures { λ res. ⌜ res ≡ eqb (message (boardOf z (now (l .entry))) (m .0) .link) 0 ⌝ }
+    ensures { λ res. ⌜ res ≡ messageLink z (message (boardOf z (now (l .entry))) (m .0) .link) ⌝ }
 {
-    link_of(z, l, m) == 0
+    let w = link_of(z, l, m);
+    if w == 0 {
+        return MessageLink::End;
+    }
+    let meant = MsgNo::meant(z, w);
+    let MessageMeant::Message(j) = meant else {
+        return MessageLink::Beyond;
+    };
+    MessageLink::On(j)
 }
 
 // PRIO of message m.

@@ -1,5 +1,1 @@
-pub mod Visits
-pub mod Counting
-pub mod Lists
-mod Turns
-mod Tests
+mod Checking

@@ -1,7 +1,6 @@
-// CODE. The check of a board: does it keep R1 to R7? Each rule is a function of the lent bytes whose answer is proved to be the
-// definition's (paper, Rules). The length is tested once and then each record is looked at a bounded number of times, each queue walked once.
+// CODE. The check of a board: does it keep R1 to R7, and who runs? Each rule is a function of the lent bytes whose answer is proved to be
+// the definition's (paper, Rules). Each record is looked at a bounded number of times, each queue walked once.
 pub mod records;
-pub mod walks;
 pub mod who;
 
 ghost use mathlib.Core.Path.{_≡_};
@@ -11,39 +10,77 @@ ghost use lib.Dec.{eqb};
 ghost use lib.ListN.{length};
 ghost use Rattle.board.specs.Board.{total, boardOf};
 ghost use Rattle.paper.specs.Rules.{passes};
+ghost use Rattle.rules.specs.Checked.{checkedOf, notDue};
 use board::numbers::Size;
+use board::numbers::TaskMeant;
+use board::status::Status;
+use lent::bytes::task_at;
+use queue_rules::messages::rule5;
+use queue_rules::tasks::Order;
+use queue_rules::tasks::rule3;
+use record_rules::rule1;
+use record_rules::rule2;
+use record_rules::rule4;
+use record_rules::rule6;
 
-// True if these bytes are a board of this size, no more and no fewer, and keep R1 to R7.
-pub fn passes(z: Size, b: &[u8]) -> bool
-    ensures { λ res. ⌜ res ≡ (eqb (length (now (b .entry))) (total z) && passes z (boardOf z (now (b .entry)))) ⌝ }
-{
-    if b.len() != z.total() as usize {
-        return false;
-    }
-    keeps(z, b)
+// What the check found: a broken rule, or that this task runs.
+pub enum Checked {
+    Broken,
+    Passes(TaskMeant),
 }
 
-fn keeps(z: Size, b: &[u8]) -> bool
-    requires { ⌜ total z ≤ length (now b) ⌝ }
-    ensures { λ res. ⌜ res ≡ passes z (boardOf z (now (b .entry))) ⌝ }
+// R7, where c runs: it isn't due a message.
+pub fn rule7(z: Size, l: &[u8], c: TaskMeant) -> bool
+    requires { ⌜ total z ≤ length (now l) ⌝ }
+    ensures { λ res. ⌜ res ≡ notDue (boardOf z (now (l .entry))) c ⌝ }
 {
-    if !records::rule1(b) {
+    let TaskMeant::Task(k) = c else {
+        return true;
+    };
+    let t = task_at(z, l, k);
+    let s = t.stat;
+    !s.has(Status::MHBS)
+}
+
+pub fn check_rules(z: Size, l: &[u8]) -> Checked
+    requires { ⌜ total z ≤ length (now l) ⌝ }
+    ensures { λ res. ⌜ res ≡ checkedOf z (boardOf z (now (l .entry))) ⌝ }
+{
+    if !rule1(l) {
+        return Checked::Broken;
+    }
+    if !rule2(z, l) {
+        return Checked::Broken;
+    }
+    let order = rule3(z, l);
+    let Order::Listed(c) = order else {
+        return Checked::Broken;
+    };
+    if !rule4(z, l) {
+        return Checked::Broken;
+    }
+    if !rule5(z, l) {
+        return Checked::Broken;
+    }
+    if !rule6(z, l) {
+        return Checked::Broken;
+    }
+    if !rule7(z, l, c) {
+        return Checked::Broken;
+    }
+    Checked::Passes(c)
+}
+
+// True if these bytes are a board of this size, no more and no fewer, and keep R1 to R7.
+pub fn passes(z: Size, l: &[u8]) -> bool
+    ensures { λ res. ⌜ res ≡ (eqb (length (now (l .entry))) (total z) && passes z (boardOf z (now (l .entry)))) ⌝ }
+{
+    if l.len() != z.total() as usize {
         return false;
     }
-    if !records::rule2(z, b) {
-        return false;
+    let checked = check_rules(z, l);
+    match checked {
+        Checked::Broken => false,
+        Checked::Passes(_) => true,
     }
-    if !walks::rule3(z, b) {
-        return false;
-    }
-    if !records::rule4(z, b) {
-        return false;
-    }
-    if !walks::rule5(z, b) {
-        return false;
-    }
-    if !records::rule6(z, b) {
-        return false;
-    }
-    who::rule7(z, b)
 }

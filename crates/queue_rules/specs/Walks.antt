@@ -1,0 +1,71 @@
+-- The walk of a queue as code makes it, counting as it goes. The contracts of src/messages.rt cite this file; that it says the same as R3 and
+-- R5 is proved (proofs/Lists), so no reader needs to believe it.
+--   went next number good .. x low     one link followed, where good says which records belong to the queue
+--   visited next number good n x low s a walk of at most n links from x that saw s before and met the priority number low last
+--   counted f n                        how many numbers from 1 to n pass f
+--   messageTurned z b k m low          one link of task k's queue; one that leads beyond the board leads astray
+--   queueWalked z b k                  the walk of task k's queue
+--   walked z b n                       the walks of the queues of tasks 1 to n, one after the other
+-- Assumes nothing.
+use mathlib.Core.Bool.{Bool, true, false, cond, _&&_}
+use Prim.Native.Nat.{ℕ, zero, suc, _+_}
+use lib.Dec.{eqb, leb}
+use Rattle.board.specs.declared.numbers.Size.{Size}
+use Rattle.board.specs.declared.numbers.MessageMeant.{MessageMeant}
+use Rattle.board.specs.declared.numbers.MessageMeant.the-variants.{Message, NoMessage}
+use Rattle.board.specs.declared.records.Task.{Task}
+use Rattle.board.specs.declared.places.Place.{Place}
+use Rattle.board.specs.declared.places.Place.the-variants.{Free, HeldBy, QueuedAt, Nowhere}
+use Rattle.board.specs.Numbers.{messageMeant}
+use Rattle.board.specs.Places.{isQueuedAt, isQueued}
+use Rattle.board.specs.Board.{Board, task, place}
+use Rattle.paper.specs.Rules.{nextMessage, messageNumber}
+use Rattle.queue_rules.specs.declared.messages.MessageTurn.{MessageTurn}
+use Rattle.queue_rules.specs.declared.messages.MessageTurn.the-variants.{Next, End, Stray}
+use Rattle.queue_rules.specs.declared.messages.Walked.{Walked}
+use Rattle.queue_rules.specs.declared.messages.Walked.the-variants.{Seen, Broken}
+
+-- to the end, on, or astray
+abbrev pub went : {A : Type 0} → (ℕ → ℕ) → (ℕ → ℕ) → (ℕ → Bool) → (ℕ → ℕ → A) → A → A → ℕ → ℕ → A
+went next number good on end stray x low =
+    cond (good x && leb low (number x)) (cond (eqb (next x) 0) end (on (next x) (number x))) stray
+
+unfoldable pub visited : (ℕ → ℕ) → (ℕ → ℕ) → (ℕ → Bool) → ℕ → ℕ → ℕ → ℕ → Walked
+visited next number good zero x low seen = cond (eqb x 0) (Seen seen) Broken
+visited next number good (suc n) zero low seen = Seen seen
+visited next number good (suc n) (suc x) low seen =
+    cond (good (suc x) && leb low (number (suc x))) (visited next number good n (next (suc x)) (number (suc x)) (suc seen)) Broken
+
+unfoldable pub counted : (ℕ → Bool) → ℕ → ℕ
+counted f zero = 0
+counted f (suc n) = cond (f (suc n)) (suc (counted f n)) (counted f n)
+
+-- message m is queued, queued at k
+abbrev pub queued : Board → ℕ → Bool
+queued b m = isQueued (place b m)
+
+abbrev pub queuedAt : Board → ℕ → ℕ → Bool
+queuedAt b k m = isQueuedAt k (place b m)
+
+abbrev pub onMessage : MessageMeant → ℕ → MessageTurn
+onMessage (Message m) p = Next m p
+onMessage NoMessage p = Stray
+
+abbrev pub messageTurned : Size → Board → ℕ → ℕ → ℕ → MessageTurn
+messageTurned z b k = went (nextMessage b) (messageNumber b) (queuedAt b k) (λ y p. onMessage (messageMeant z y) p) End Stray
+
+abbrev pub queueVisited : Board → ℕ → ℕ → ℕ → ℕ → ℕ → Walked
+queueVisited b k = visited (nextMessage b) (messageNumber b) (queuedAt b k)
+
+abbrev pub queueWalked : Size → Board → ℕ → Walked
+queueWalked z b k = queueVisited b k (z .messages) (task b k .mptr) 0 0
+
+-- one queue's walk added to those before it
+abbrev pub added : Walked → Walked → Walked
+added Broken w = Broken
+added (Seen s) Broken = Broken
+added (Seen s) (Seen n) = Seen (s + n)
+
+unfoldable pub walked : Size → Board → ℕ → Walked
+walked z b zero = Seen 0
+walked z b (suc k) = added (walked z b k) (queueWalked z b (suc k))

@@ -1,0 +1,32 @@
+// Who runs, looked for alone: dispatch asks it after a call.
+ghost use mathlib.Core.Path.{_≡_};
+ghost use Prim.Native.Nat.{_≤_};
+ghost use lib.ListN.{length};
+ghost use Rattle.board.specs.Numbers.{taskMeant};
+ghost use Rattle.board.specs.Board.{boardOf, total};
+ghost use Rattle.paper.specs.Rules.{running};
+use board::numbers::Size;
+use board::numbers::TaskMeant;
+use lent::bytes::first_task;
+use lent::bytes::task_at;
+
+// The running task: the first ready one in queue order, if any.
+pub fn running(z: Size, l: &[u8]) -> TaskMeant
+    requires { ⌜ total z ≤ length (now l) ⌝ }
+    ensures { λ res. ⌜ res ≡ taskMeant z (running z (boardOf z (now (l .entry)))) ⌝ }
+{
+    let mut who = first_task(z, l);
+    let mut left = z.messages;
+    while 0 < left {
+        let TaskMeant::Task(k) = who else {
+            return TaskMeant::NoTask;
+        };
+        let t = task_at(z, l, k);
+        if t.ready() {
+            return TaskMeant::Task(k);
+        }
+        who = t.next(z);
+        left -= 1;
+    }
+    TaskMeant::NoTask
+}

@@ -1,0 +1,29 @@
+-- What each turn of a loop that asks every number makes of the definition: a hypothesis for each test and each callee's contract.
+-- Assumes nothing.
+use mathlib.Core.Path.{_≡_, refl, sym, ap, _∙_}
+use mathlib.Core.Bool.{Bool, true, false, not, true≢false}
+use Prim.Native.Nat.{ℕ, suc, _+_, _<_}
+use native.Mathlib.Omega.{arith}
+use borrow.Author.Tests.{not-true, not-false}
+use Rattle.links.specs.Queue.{each}
+use Rattle.links.proofs.Bools.{and-true, each-at}
+
+-- ---- each number passes: R2, R4, R6, where t is what the code answers for the next number
+module _ (f : ℕ → Bool) where
+  -- it passes too
+  pub each-next : (k : ℕ) (t : Bool) → t ≡ f (k + 1) → not t ≡ false → each f k ≡ true → each f (k + 1) ≡ true
+  each-next k t e n h =
+      let s : k + 1 ≡ suc k = omega arith in
+      ap (each f) s ∙ and-true (each f k) (f (suc k)) h (ap f (sym s) ∙ sym e ∙ not-false t n)
+
+  -- it fails, so they do not all pass
+  pub each-fails : (n k : ℕ) (t : Bool) → k < n → t ≡ f (k + 1) → not t ≡ true → false ≡ each f n
+  each-fails n k t h e q = go (each f n) refl
+    where
+      go : (s : Bool) → each f n ≡ s → false ≡ s
+      go true r = absurd (true≢false (sym (each-at f n r (k + 1) (omega arith) (omega arith)) ∙ sym e ∙ not-true t q))
+      go false r = refl
+
+  -- it was the last
+  pub each-done : (n k : ℕ) → k ≡ n → each f k ≡ true → true ≡ each f n
+  each-done n k e h = sym h ∙ ap (each f) e

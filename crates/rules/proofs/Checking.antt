@@ -1,0 +1,160 @@
+-- The check as a whole: one rule that fails breaks it, and where all hold the task that R3's walk met runs.
+-- Assumes nothing.
+use mathlib.Core.Path.{_≡_, refl, sym, ap, _∙_}
+use mathlib.Core.Bool.{Bool, true, false, cond, not, _&&_, and-false}
+use mathlib.Core.List.{List}
+use Prim.Native.Nat.{ℕ}
+use native.Mathlib.Omega.{arith}
+use lib.Dec.{eqb}
+use Rattle.links.specs.Queue.{each}
+use Rattle.links.proofs.Bools.{and-true}
+use Rattle.board.specs.declared.numbers.Size.{Size}
+use Rattle.board.specs.declared.numbers.TaskMeant.{TaskMeant}
+use Rattle.board.specs.declared.numbers.TaskMeant.the-variants as who
+use Rattle.board.specs.declared.records.Task.{Task}
+use Rattle.board.specs.Numbers.{outside, taskNo, taskMeant, numberOfTask}
+use Rattle.board.specs.Status.{MHBS, has}
+use Rattle.board.specs.Records.{noTask}
+use Rattle.board.specs.Board.{Board, boardOf, task}
+use Rattle.board.proofs.Pieces.{nth-outside}
+use Rattle.board.proofs.Codec.{length-tasks}
+use Rattle.paper.specs.Rules.{running, rule1, rule2At, rule3, rule4At, rule5At, rule6At, rule7, passes}
+use Rattle.queue_rules.specs.declared.tasks.Order.{Order}
+use Rattle.queue_rules.specs.declared.tasks.Order.the-variants as order
+use Rattle.queue_rules.specs.Order.{listed}
+use Rattle.rules.specs.declared.Checked.{Checked}
+use Rattle.rules.specs.declared.Checked.the-variants.{Broken, Passes}
+use Rattle.rules.specs.Checked.{notDue, checkedOf}
+
+-- ---- R3's answer
+-- is it broken
+abbrev isBroken : Order → Bool
+isBroken order.Broken = true
+isBroken (order.Listed c) = false
+
+-- who runs, d where it is broken
+abbrev runnerOr : TaskMeant → Order → TaskMeant
+runnerOr d order.Broken = d
+runnerOr d (order.Listed c) = c
+
+answer-broken : (t : Bool) (c : TaskMeant) → isBroken (cond t (order.Listed c) order.Broken) ≡ not t
+answer-broken true c = refl
+answer-broken false c = refl
+
+answer-runner : (t : Bool) (c : TaskMeant) → runnerOr c (cond t (order.Listed c) order.Broken) ≡ c
+answer-runner true c = refl
+answer-runner false c = refl
+
+not-back : (s t : Bool) → not s ≡ t → s ≡ not t
+not-back true t e = ap not e
+not-back false t e = ap not e
+
+-- ---- the board l
+module _ (z : Size) (l : List ℕ) where
+  abbrev b : Board
+  b = boardOf z l
+
+  abbrev r2 : Bool
+  r2 = each (rule2At b) (z .tasks)
+
+  abbrev r4 : Bool
+  r4 = each (rule4At z b) (z .messages)
+
+  abbrev r5 : Bool
+  r5 = each (rule5At z b) (z .tasks)
+
+  abbrev r6 : Bool
+  r6 = each (rule6At b) (z .tasks)
+
+  -- the rules up to the third, the fourth ..
+  abbrev to2 : Bool
+  to2 = rule1 b && r2
+
+  abbrev to3 : Bool
+  to3 = to2 && rule3 z b
+
+  abbrev to4 : Bool
+  to4 = to3 && r4
+
+  abbrev to5 : Bool
+  to5 = to4 && r5
+
+  abbrev to6 : Bool
+  to6 = to5 && r6
+
+  first : (s t : Bool) → s ≡ false → s && t ≡ false
+  first s t e = ap (λ (u : Bool). u && t) e
+
+  second : (s t : Bool) → t ≡ false → s && t ≡ false
+  second s t e = ap (λ (u : Bool). s && u) e ∙ and-false s
+
+  broken : to6 ≡ false → Broken ≡ checkedOf z b
+  broken e = ap (λ (t : Bool). cond t (Passes (taskMeant z (running z b))) Broken) (sym (first to6 (rule7 z b) e))
+
+  after3 : to3 ≡ false → Broken ≡ checkedOf z b
+  after3 e = broken (first to5 r6 (first to4 r5 (first to3 r4 e)))
+
+  -- one rule fails
+  pub breaks1 : rule1 b ≡ false → Broken ≡ checkedOf z b
+  breaks1 e = after3 (first to2 (rule3 z b) (first (rule1 b) r2 e))
+
+  pub breaks2 : r2 ≡ false → Broken ≡ checkedOf z b
+  breaks2 e = after3 (first to2 (rule3 z b) (second (rule1 b) r2 e))
+
+  pub breaks3 : order.Broken ≡ listed z b → Broken ≡ checkedOf z b
+  breaks3 e = after3 (second to2 (rule3 z b) (not-back (rule3 z b) true (sym (answer-broken (rule3 z b) _) ∙ ap isBroken (sym e))))
+
+  pub breaks4 : r4 ≡ false → Broken ≡ checkedOf z b
+  breaks4 e = broken (first to5 r6 (first to4 r5 (second to3 r4 e)))
+
+  pub breaks5 : r5 ≡ false → Broken ≡ checkedOf z b
+  breaks5 e = broken (first to5 r6 (second to4 r5 e))
+
+  pub breaks6 : r6 ≡ false → Broken ≡ checkedOf z b
+  breaks6 e = broken (second to5 r6 e)
+
+  -- ---- R3's walk met c
+  task-met : (w : ℕ) → task b (numberOfTask (taskMeant z w)) ≡ task b w
+  task-met w = go (outside (z .tasks) w) refl
+    where
+      go : (t : Bool) → outside (z .tasks) w ≡ t → task b (numberOfTask (cond t who.NoTask (who.Task (taskNo w)))) ≡ task b w
+      go true e = sym (nth-outside noTask (b .tasks) w (ap (λ (n : ℕ). outside n w) (length-tasks z l) ∙ e))
+      go false e = refl
+
+  module _ (c : TaskMeant) (e : order.Listed c ≡ listed z b) where
+    in-order : rule3 z b ≡ true
+    in-order = not-back (rule3 z b) false (sym (answer-broken (rule3 z b) _) ∙ ap isBroken (sym e))
+
+    runs : c ≡ taskMeant z (running z b)
+    runs = ap (runnerOr (taskMeant z (running z b))) e ∙ answer-runner (rule3 z b) (taskMeant z (running z b))
+
+    due : notDue b c ≡ rule7 z b
+    due =
+        ap (notDue b) runs
+        ∙ ap (λ (t : Task). not (has (t .stat) MHBS)) (task-met (running z b))
+
+    -- it is due a message
+    pub breaks7 : notDue b c ≡ false → Broken ≡ checkedOf z b
+    breaks7 f =
+        ap (λ (t : Bool). cond t (Passes (taskMeant z (running z b))) Broken) (sym (second to6 (rule7 z b) (sym due ∙ f)))
+
+    -- all hold
+    pub all-hold : rule1 b ≡ true → r2 ≡ true → r4 ≡ true → r5 ≡ true → r6 ≡ true → notDue b c ≡ true
+        → Passes c ≡ checkedOf z b
+    all-hold h1 h2 h4 h5 h6 h7 =
+        let a3 = and-true to2 (rule3 z b) (and-true (rule1 b) r2 h1 h2) in-order in
+        let a5 = and-true to4 r5 (and-true to3 r4 a3 h4) h5 in
+        let a7 = and-true to6 (rule7 z b) (and-true to5 r6 a5 h6) (sym due ∙ h7) in
+        ap Passes runs ∙ ap (λ (t : Bool). cond t (Passes (taskMeant z (running z b))) Broken) (sym a7)
+
+-- ---- the answer told as a test
+abbrev pub didPass : Checked → Bool
+didPass Broken = false
+didPass (Passes c) = true
+
+pub told-passes : (z : Size) (b : Board) → didPass (checkedOf z b) ≡ passes z b
+told-passes z b = go (passes z b)
+  where
+    go : (t : Bool) → didPass (cond t (Passes (taskMeant z (running z b))) Broken) ≡ t
+    go true = refl
+    go false = refl
