@@ -16,7 +16,7 @@ use Rattle.links.specs.Queue.{walk, firstOf, restOf, insert, without, relink}
 use Rattle.links.specs.Chain.{In, Out, All, Chain}
 use Rattle.links.specs.Seek.{Spot, seek}
 use Rattle.links.proofs.Members.{in-left, all-at, all-of}
-use Rattle.links.proofs.Chains.{chain-first, chain-out-zero, chain-within, chain-start, chain-next, chain-walk}
+use Rattle.links.proofs.Chains.{chain-first, chain-out-zero, chain-within, chain-next, chain-walk}
 use Rattle.links.proofs.Insertion.{before, after, lastOr, last0, before-after, before-none, insert-first, first-insert-behind}
 use Rattle.links.proofs.Removal.{first-without-first, first-without-behind, chain-rest}
 use Rattle.links.proofs.Relinks.{relink-same, relink-insert-first, relink-insert-behind, relink-without-first, relink-without-behind}

@@ -3,25 +3,21 @@
 -- Assumes nothing.
 use mathlib.Core.Path.{_≡_, refl, sym, ap, _∙_, subst}
 use mathlib.Core.Logic.{_≢_}
-use mathlib.Core.Bool.{Bool, true, false, true≢false}
+use mathlib.Core.Bool.{true, false, true≢false}
 use mathlib.Core.List.{List, [], _∷_}
 use Prim.Native.Nat.{ℕ}
 use lib.Dec.{eqb}
 use lib.ListN.{length}
 use Rattle.links.specs.Queue.{firstWith}
-use Rattle.links.specs.Chain.{In, Out}
+use Rattle.links.specs.Chain.{In}
 use Rattle.links.proofs.Members.{not-in-out}
 use Rattle.board.specs.declared.numbers.Size.{Size}
-use Rattle.board.specs.declared.numbers.TaskNo.{TaskNo}
-use Rattle.board.specs.declared.status.Status.{Status}
 use Rattle.board.specs.declared.records.Task.{Task}
 use Rattle.board.specs.declared.records.Message.{Message}
-use Rattle.board.specs.declared.places.Place.the-variants.{Free, HeldBy}
-use Rattle.board.specs.Numbers.{taskNo}
-use Rattle.board.specs.Status.{stored}
+use Rattle.board.specs.declared.places.Place.the-variants.{Free}
 use Rattle.board.specs.Records.{noTask, noMessage}
 use Rattle.board.specs.Places.{isQueued}
-use Rattle.board.specs.Board.{Board, total, boardOf, task, message, place, withTask, withMessage, withPlace}
+use Rattle.board.specs.Board.{Board, total, boardOf, task, message, withTask, withMessage, withPlace}
 use Rattle.board.specs.Writes.{putMessage}
 use Rattle.paper.specs.declared.call.Call.{Call}
 use Rattle.paper.specs.declared.call.Call.the-variants.{Install, PostInterrupt, Find, CancelTask, Claim, Prepare, Release}
@@ -29,8 +25,8 @@ use Rattle.paper.specs.declared.call.Call.the-variants.{Send, SendAndWait, Rese
 use Rattle.paper.specs.declared.call.Call.the-variants.{Receive, ReceiveAndWait, CancelMessage, WaitForInterrupt}
 use Rattle.paper.specs.Rules.{present, queue, order, running}
 use Rattle.paper.specs.Changes.{hold}
-use Rattle.paper.specs.Effects.{placeAt, send, emptied, cancelMessage, waits, install, cancelTask, lowestFree, claim, release}
-use Rattle.paper.specs.Refusals.{Test, no3, no4, no5, no6, no7, no11, ownRow, Verdict, Go, Stop, lowest}
+use Rattle.paper.specs.Effects.{placeAt, send, emptied, cancelMessage, waits, install, cancelTask, lowestFree, release}
+use Rattle.paper.specs.Refusals.{Test, no3, no4, no5, no6, no7, ownRow, Go, lowest}
 use Rattle.paper.specs.Outcomes.{Undispatched, undispatched, body}
 use Rattle.linked.specs.Linked.{Numbered}
 use Rattle.linked.proofs.Running.{runner-says}

@@ -1,7 +1,7 @@
 -- The task queue, on bytes of the right length whose links list queues: what code stores when a task goes in or is taken out is
 -- what the paper says of the whole queue.
 -- Assumes nothing.
-use mathlib.Core.Path.{_≡_, refl, sym, ap, _∙_, subst}
+use mathlib.Core.Path.{_≡_, refl, sym, ap, subst}
 use mathlib.Core.Bool.{Bool, true, false, cond}
 use mathlib.Core.List.{List}
 use Prim.Native.Nat.{ℕ, _≤_, _<_}
@@ -20,7 +20,7 @@ use Rattle.board.specs.declared.records.Task.{Task}
 use Rattle.board.specs.Numbers.{outside, onBoard, taskMeant}
 use Rattle.board.specs.Status.{number}
 use Rattle.board.specs.Records.{taskWithLink}
-use Rattle.board.specs.Board.{Board, total, boardOf, task, withFirst, withTask}
+use Rattle.board.specs.Board.{Board, total, boardOf, withFirst, withTask}
 use Rattle.board.specs.Writes.{putTask}
 use Rattle.board.proofs.Pieces.{outside-within, within-outside}
 use Rattle.board.proofs.Codec.{length-tasks, length-places}
