@@ -19,12 +19,14 @@ use Rattle.paper.specs.Rules.{nextTask, nextMessage}
 use Rattle.paper.specs.Changes.{linkTask, linkMessage, withMptr, withQueue}
 use Rattle.stored.proofs.Behind.{Store}
 
--- ---- one record of many, changed by f
+-- ---- record x of many, changed by f
+abbrev change : {A : Type 0} → A → List A → ℕ → (A → A) → List A
+change none l x f = put l x (f (nth none l x))
+
 module _ {A : Type 0} (none : A) where
   -- at different numbers
   change-comm : (l : List A) (x y : ℕ) (f g : A → A) → x ≢ y
-      → put (put l x (f (nth none l x))) y (g (nth none (put l x (f (nth none l x))) y))
-      ≡ put (put l y (g (nth none l y))) x (f (nth none (put l y (g (nth none l y))) x))
+      → change none (change none l x f) y g ≡ change none (change none l y g) x f
   change-comm l x y f g h =
       let u : A = f (nth none l x) in
       let v : A = g (nth none l y) in
@@ -41,20 +43,21 @@ module _ {A : Type 0} (none : A) where
   set-again (y ∷ l) (suc i) f r = ap (λ (k : List A). y ∷ k) (set-again l i f r)
 
   -- just written
-  change-put : (l : List A) (x : ℕ) (f : A → A) (r : A) → put (put l x r) x (f (nth none (put l x r) x)) ≡ put l x (f r)
+  change-put : (l : List A) (x : ℕ) (f : A → A) (r : A) → change none (put l x r) x f ≡ put l x (f r)
   change-put l zero f r = refl
   change-put l (suc i) f r = set-again l i f r
 
   -- twice, by changes that do not touch one another
   change-both : (l : List A) (x y : ℕ) (f g : A → A) → ((r : A) → g (f r) ≡ f (g r))
-      → put (put l x (f (nth none l x))) y (g (nth none (put l x (f (nth none l x))) y))
-      ≡ put (put l y (g (nth none l y))) x (f (nth none (put l y (g (nth none l y))) x))
+      → change none (change none l x f) y g ≡ change none (change none l y g) x f
   change-both l x y f g h = go (ℕ-discrete x y)
     where
-      go : Dec (x ≡ y) → put (put l x (f (nth none l x))) y (g (nth none (put l x (f (nth none l x))) y))
-          ≡ put (put l y (g (nth none l y))) x (f (nth none (put l y (g (nth none l y))) x))
-      go (yes e) = subst (λ (w : ℕ). put (put l x (f (nth none l x))) w (g (nth none (put l x (f (nth none l x))) w))
-          ≡ put (put l w (g (nth none l w))) x (f (nth none (put l w (g (nth none l w))) x))) e
+      both : (w : ℕ) → Type 0
+      both w = change none (change none l x f) w g ≡ change none (change none l w g) x f
+
+      go : Dec (x ≡ y) → both y
+      go (yes e) =
+          subst both e
           (change-put l x g (f (nth none l x)) ∙ ap (put l x) (h (nth none l x)) ∙ sym (change-put l x f (g (nth none l x))))
       go (no n) = change-comm l x y f g n
 
