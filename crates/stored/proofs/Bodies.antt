@@ -29,7 +29,7 @@ use Rattle.kept.proofs.Waiting.{task-numbered}
 use Rattle.kept.proofs.Taking.{take-none}
 use Rattle.stores.specs.Changes as changes
 use Rattle.stores.specs.Moves as moves
-use Rattle.stores.specs.Effects as stores
+use Rattle.stores.specs.Effects as effects
 use Rattle.stored.proofs.Comes.{Comes, and-then, comes-to, comes-cond, comes-same, comes-task, comes-queued, comes-hold}
 use Rattle.stored.proofs.Queues.{queue-numbered, queue-first, queue-read, queue-into, placed-once, queue-next}
 
@@ -40,26 +40,26 @@ module _ (z : Size) (l : List ℕ) (e : length l ≡ total z) where
       let d : List ℕ = changes.clears z l k off in
       and-then z d _ _ (λ b. sets b k on) (comes-task z l e k _) (λ f. comes-task z d f k _)
 
-  pub comes-woken : (r : ℕ) → Comes z (stores.woken z l r) (woken (boardOf z l) r)
+  pub comes-woken : (r : ℕ) → Comes z (effects.woken z l r) (woken (boardOf z l) r)
   comes-woken r = comes-cond z (has (task (boardOf z l) r .stat) WAIT) _ _ _ _ (comes-two r WAIT MHBS) (comes-same z l e)
 
-  pub comes-emptied : (r : ℕ) → Comes z (stores.emptied z l r) (emptied (boardOf z l) r)
+  pub comes-emptied : (r : ℕ) → Comes z (effects.emptied z l r) (emptied (boardOf z l) r)
   comes-emptied r =
       comes-cond z (has (task (boardOf z l) r .stat) MHBS && emptyQueue (boardOf z l) r) _ _ _ _ (comes-two r MHBS WAIT) (comes-same z l e)
 
-  pub comes-post : (k : ℕ) → Comes z (stores.post z l k) (post (boardOf z l) k)
+  pub comes-post : (k : ℕ) → Comes z (effects.post z l k) (post (boardOf z l) k)
   comes-post k = comes-cond z (has (task (boardOf z l) k .stat) IWAT) _ _ _ _ (comes-task z l e k _) (comes-task z l e k _)
 
-  pub comes-wait : (c : ℕ) → Comes z (stores.waitInterrupt z l c) (waitInterrupt (boardOf z l) c)
+  pub comes-wait : (c : ℕ) → Comes z (effects.waitInterrupt z l c) (waitInterrupt (boardOf z l) c)
   comes-wait c = comes-cond z (has (task (boardOf z l) c .stat) INTQ) _ _ _ _ (comes-task z l e c _) (comes-task z l e c _)
 
-  pub comes-waits : (c : ℕ) → Comes z (stores.waits z l c) (waits c (boardOf z l))
+  pub comes-waits : (c : ℕ) → Comes z (effects.waits z l c) (waits c (boardOf z l))
   comes-waits c = comes-task z l e c _
 
 -- ---- placing a message, as the record u
 pub comes-placed : (z : Size) (l : List ℕ) → length l ≡ total z → Sizes z → {order : List ℕ} {queues : ℕ → List ℕ}
     → Linked z (boardOf z l) order queues → (m : ℕ) (u : Message) (r : ℕ) → Numbered (z .messages) m → Numbered (z .tasks) r
-    → let b = boardOf z l in Out m (queue z b r) → Comes z (stores.placeAt z l m u r) (placeAt z (withMessage b m u) m r)
+    → let b = boardOf z l in Out m (queue z b r) → Comes z (effects.placeAt z l m u r) (placeAt z (withMessage b m u) m r)
 comes-placed z l e a h m u r k n o =
     let q : List ℕ = moves.queueInto z l m u r in
     let d : List ℕ = putPlace z q m (QueuedAt (taskNo r)) in
@@ -99,7 +99,7 @@ module _ (z : Size) (l : List ℕ) (e : length l ≡ total z) (a : Sizes z) (ord
   first-numbered n =
       let p = queue-numbered z l e (a .limit) (s .regular .linked) c taker first (first-in n) in within-outside (z .messages) first (p .0) (p .1)
 
-  pub comes-taken : Comes z (stores.takeFirst z l c) (takeFirst z from c)
+  pub comes-taken : Comes z (effects.takeFirst z l c) (takeFirst z from c)
   comes-taken = go (ℕ-discrete first 0)
     where
       k : List ℕ
@@ -108,7 +108,7 @@ module _ (z : Size) (l : List ℕ) (e : length l ≡ total z) (a : Sizes z) (ord
       taken : Bool → List ℕ
       taken t = cond t l (changes.hold z k c first)
 
-      go : Dec (first ≡ 0) → Comes z (stores.takeFirst z l c) (takeFirst z from c)
+      go : Dec (first ≡ 0) → Comes z (effects.takeFirst z l c) (takeFirst z from c)
       go (yes n) =
           subst (λ (t : Bool). Comes z (taken t) (takeFirst z from c)) (sym (outside-zero (z .messages) first n))
           (e, sym (take-none z from order queues a s c there n))

@@ -39,7 +39,7 @@ use Rattle.kept.proofs.Placing.{sender-passed}
 use Rattle.kept.proofs.Taking.{cancel-message-row}
 use Rattle.stores.specs.Changes as changes
 use Rattle.stores.specs.Moves as moves
-use Rattle.stores.specs.Effects as stores
+use Rattle.stores.specs.Effects as effects
 use Rattle.stores.specs.Answers.{Stored, leaves, rests}
 use Rattle.stores.specs.Calls as calls
 use Rattle.stored.proofs.Comes.{Comes, and-then, comes-to, comes-same, comes-task, comes-message, comes-free, comes-held, comes-hold}
@@ -82,7 +82,7 @@ module _ (z : Size) (l : List ℕ) (e : length l ≡ total z) (a : Sizes z) (q :
   -- ---- messages that are placed
   -- as the record u, by a row that says that the running task holds it and that r is there
   placed : (m : ℕ) (u : Message) (r : ℕ) (tests : List Test) → lowest (no3 c ∷ no4 z m ∷ no5 b c m ∷ no6 z b r ∷ tests) ≡ Go
-      → Comes z (stores.placeAt z l m u r) (placeAt z (withMessage b m u) m r)
+      → Comes z (effects.placeAt z l m u r) (placeAt z (withMessage b m u) m r)
   placed m u r tests g =
       let (runs, held, there, rest) = sender-passed z b q queues a s m r tests g in
       let n = numbered r there in
@@ -91,28 +91,28 @@ module _ (z : Size) (l : List ℕ) (e : length l ≡ total z) (a : Sizes z) (q :
       (not-in-out m (queue z b r) (λ i. out m (subst (In m) (queue-walked z b q queues s r n) i) refl))
 
   -- addressed
-  sent : (m r : ℕ) → lowest (ownRow z b c (Send m r)) ≡ Go → Comes z (stores.send z l c m r) (send z b c m r)
-  sent m r g = placed m (stores.addressed b c m r) r [] g
+  sent : (m r : ℕ) → lowest (ownRow z b c (Send m r)) ≡ Go → Comes z (effects.send z l c m r) (send z b c m r)
+  sent m r g = placed m (effects.addressed b c m r) r [] g
 
   -- as it is
-  passed : (m r : ℕ) → lowest (ownRow z b c (Forward m r)) ≡ Go → Comes z (stores.passOn z l m r) (placeAt z b m r)
+  passed : (m r : ℕ) → lowest (ownRow z b c (Forward m r)) ≡ Go → Comes z (effects.passOn z l m r) (placeAt z b m r)
   passed m r g =
       comes-to z _ _ _ (placed m (message b m) r (no7 b m ∷ []) g)
       (ap (λ (x : Board). placeAt z x m r) (message-same b m (message b m) refl))
 
-  and-waits : (k : List ℕ) (d : Board) → Comes z k d → Comes z (stores.waits z k c) (waits c d)
+  and-waits : (k : List ℕ) (d : Board) → Comes z k d → Comes z (effects.waits z k c) (waits c d)
   and-waits k d h = and-then z k _ _ (waits c) h (λ f. comes-waits z k f c)
 
   -- ---- tasks
   installed : (k t p sptr name : ℕ) → lowest (ownRow z b c (Install k t p sptr name)) ≡ Go
-      → Comes z (stores.install z l k t p sptr name) (install z b k t p sptr name)
+      → Comes z (effects.install z l k t p sptr name) (install z b k t p sptr name)
   installed k t p sptr name g =
       let (prio, n, absent, stat) = install-row z b k t p g in
       order-into z l e (a .limit) (a .tasks) (s .regular .linked) k _ n
       (not-in-out k (order z b) (λ i. true≢false
       (sym (s .regular .linked .tasks .exact k .0 (subst (In k) (order-walked z b q queues s (a .limit)) i)) ∙ absent)))
 
-  cancelled : (k : ℕ) → lowest (ownRow z b c (CancelTask k)) ≡ Go → Comes z (stores.cancelTask z l k) (cancelTask z b k)
+  cancelled : (k : ℕ) → lowest (ownRow z b c (CancelTask k)) ≡ Go → Comes z (effects.cancelTask z l k) (cancelTask z b k)
   cancelled k g =
       let (n, there, idle) = cancel-row z b c k g in
       let i : In k (order z b) = subst (In k) (sym (order-walked z b q queues s (a .limit))) (s .regular .linked .tasks .exact k .1 there) in
@@ -120,12 +120,12 @@ module _ (z : Size) (l : List ℕ) (e : length l ≡ total z) (a : Sizes z) (q :
       and-then z d _ _ (λ x. withTask x k noTask) (order-out z l e (a .limit) (a .tasks) (s .regular .linked) k i) (λ f. comes-task z d f k noTask)
 
   -- ---- messages
-  released : (m : ℕ) → Comes z (stores.release z l m) (release b m)
+  released : (m : ℕ) → Comes z (effects.release z l m) (release b m)
   released m =
       let d : List ℕ = putMessage z l m noMessage in
       and-then z d _ _ (λ x. withPlace x m Free) (comes-message z l e m noMessage) (λ f. comes-free z d f m)
 
-  taken-back : (m r : ℕ) → lowest (ownRow z b c (CancelMessage m r)) ≡ Go → Comes z (stores.cancelMessage z l c m r) (cancelMessage z b c m r)
+  taken-back : (m r : ℕ) → lowest (ownRow z b c (CancelMessage m r)) ≡ Go → Comes z (effects.cancelMessage z l c m r) (cancelMessage z b c m r)
   taken-back m r g =
       let (runs, n, queued) = cancel-message-row z b c m r g in
       let i : In m (queue z b r) = subst (In m) (sym (queue-walked z b q queues s r n)) (s .regular .linked .messages r n .exact m .1 queued) in

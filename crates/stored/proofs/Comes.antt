@@ -20,7 +20,7 @@ use Rattle.board.proofs.Pieces.{length-putIn}
 use Rattle.board.proofs.Written.{board-put-first, board-put-task, board-put-message, board-put-free, board-put-held, board-put-queued}
 use Rattle.paper.specs.Changes.{hold}
 use Rattle.linked.specs.Linked.{Numbered}
-use Rattle.stores.specs.Changes as stores
+use Rattle.stores.specs.Changes as changes
 
 -- the bytes l have the board's length and are the board b
 abbrev pub Comes : Size → List ℕ → Board → Type 0
@@ -73,7 +73,7 @@ module _ (z : Size) (l : List ℕ) (e : length l ≡ total z) where
 
 -- a message in a task's hands
 pub comes-hold : (z : Size) (l : List ℕ) → length l ≡ total z → (c m : ℕ) → Numbered (z .tasks) c → z .tasks ≤ 63
-    → Comes z (stores.hold z l c m) (hold (boardOf z l) c m)
+    → Comes z (changes.hold z l c m) (hold (boardOf z l) c m)
 comes-hold z l e c m n s =
-    and-then z (stores.linkMessage z l m 0) _ _ (λ b. withPlace b m (HeldBy (taskNo c))) (comes-message z l e m _)
-    (λ f. comes-held z (stores.linkMessage z l m 0) f m c n s)
+    and-then z (changes.linkMessage z l m 0) _ _ (λ b. withPlace b m (HeldBy (taskNo c))) (comes-message z l e m _)
+    (λ f. comes-held z (changes.linkMessage z l m 0) f m c n s)

@@ -22,7 +22,8 @@ use Rattle.board.specs.Status.{number}
 use Rattle.board.specs.Records.{taskWithLink}
 use Rattle.board.specs.Board.{Board, total, boardOf, withFirst, withTask}
 use Rattle.board.specs.Writes.{putTask}
-use Rattle.board.proofs.Pieces.{outside-within, within-outside}
+use Rattle.board.proofs.Pieces.{outside-within}
+use Rattle.board.proofs.Meant.{onBoard-most}
 use Rattle.board.proofs.Codec.{length-tasks, length-places}
 use Rattle.paper.specs.Rules.{nextTask, taskNumber, order}
 use Rattle.paper.specs.Changes.{linkTask, withOrder}
@@ -44,9 +45,9 @@ comes-behind z l e prev x h = go (outside (z .tasks) prev)
     go true = comes-first z l e x h
     go false = comes-task z l e prev _
 
--- a word that is led to 0 where the board has no such task
-onBoard-most : (n w : ℕ) → onBoard n w ≤ n
-onBoard-most n w = go (outside n w) refl
+-- no word leads beyond the board
+onBoard-low : (n w : ℕ) → onBoard n w ≤ n
+onBoard-low n w = go (outside n w) refl
   where
     go : (t : Bool) → outside n w ≡ t → cond t 0 w ≤ n
     go true e = omega arith
@@ -57,7 +58,7 @@ module _ (z : Size) (l : List ℕ) (e : length l ≡ total z) (fuel : z .tasks �
   abbrev b : Board
   b = boardOf z l
 
-  pub order-walks : order z b ≡ tasks
+  order-walks : order z b ≡ tasks
   order-walks = linked-walks z b (length-tasks z l) (length-places z l) fuel tasks queues h .0
 
   order-chain : Chain (nextTask b) (b .first) (order z b)
@@ -66,8 +67,8 @@ module _ (z : Size) (l : List ℕ) (e : length l ≡ total z) (fuel : z .tasks �
   -- the queue is of tasks of the board
   order-on : All (λ k. onBoard (z .tasks) k ≡ k) (order z b)
   order-on = all-of _ (order z b) (λ k i.
-      let p = present-within z b (length-tasks z l) (length-places z l) fuel k (h .tasks .exact k .0 (subst (In k) order-walks i)) in
-      ap (λ (t : Bool). cond t 0 k) (within-outside (z .tasks) k (p .0) (p .1)))
+      let there = h .tasks .exact k .0 (subst (In k) order-walks i) in
+      onBoard-most (z .tasks) k (present-within z b (length-tasks z l) (length-places z l) fuel k there .1))
 
   order-spot : (goes : ℕ → Bool)
       → seek goes (moves.taskBehind z b) (z .messages) 0 (onBoard (z .tasks) (b .first)) ≡ spotIn goes (order z b)
@@ -104,5 +105,5 @@ module _ (z : Size) (l : List ℕ) (e : length l ≡ total z) (fuel : z .tasks �
   order-out k i =
       let at : Spot = moves.spotOfTask z l k in
       comes-to z (moves.orderOut z l k) _ _
-      (comes-behind z l e (at .prev) (moves.taskBehind z b k) (omega (arith, onBoard-most (z .tasks) (nextTask b k))))
+      (comes-behind z l e (at .prev) (moves.taskBehind z b k) (omega (arith, onBoard-low (z .tasks) (nextTask b k))))
       (behind-without orderStore b (z .tasks) (order z b) order-chain order-on k at i (order-spot (λ y. eqb y k)))

@@ -26,7 +26,7 @@ use Rattle.board.specs.Records.{withLink, withPrio}
 use Rattle.board.specs.Places.{isQueuedAt}
 use Rattle.board.specs.Board.{Board, total, boardOf, task, message, place, withMessage, withPlace}
 use Rattle.board.specs.Writes.{putMessage}
-use Rattle.board.proofs.Pieces.{within-outside}
+use Rattle.board.proofs.Meant.{onBoard-most}
 use Rattle.board.proofs.Codec.{length-tasks, length-places}
 use Rattle.paper.specs.Rules.{nextMessage, messageNumber, queue}
 use Rattle.paper.specs.Changes.{linkMessage, withMptr, withQueue}
@@ -57,10 +57,10 @@ module _ (z : Size) (l : List ℕ) (e : length l ≡ total z) (fuel : z .tasks �
   abbrev b : Board
   b = boardOf z l
 
-  pub queue-walks : queue z b r ≡ queues r
+  queue-walks : queue z b r ≡ queues r
   queue-walks = linked-walks z b (length-tasks z l) (length-places z l) fuel order queues h .1 r n
 
-  pub queue-chain : Chain (nextMessage b) (task b r .mptr) (queue z b r)
+  queue-chain : Chain (nextMessage b) (task b r .mptr) (queue z b r)
   queue-chain = rw queue-walks (h .messages r n .chain)
 
   -- the queue is of messages of the board
@@ -70,8 +70,7 @@ module _ (z : Size) (l : List ℕ) (e : length l ≡ total z) (fuel : z .tasks �
       rw (← length-places z l) (nth-numbered Free (isQueuedAt r) (b .places) refl y (says-isQueuedAt r (place b y) .1 p))
 
   queue-on : All (λ y. onBoard (z .messages) y ≡ y) (queue z b r)
-  queue-on = all-of _ (queue z b r) (λ y i. let p = queue-numbered y i in
-      ap (λ (t : Bool). cond t 0 y) (within-outside (z .messages) y (p .0) (p .1)))
+  queue-on = all-of _ (queue z b r) (λ y i. onBoard-most (z .messages) y (queue-numbered y i .1))
 
   queue-spot : (goes : ℕ → Bool)
       → seek goes (moves.messageBehind z b) (z .messages) 0 (onBoard (z .messages) (task b r .mptr)) ≡ spotIn goes (queue z b r)

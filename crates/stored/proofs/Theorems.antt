@@ -31,7 +31,7 @@ use Rattle.kept.proofs.Bodies.{body-settles}
 use Rattle.stores.specs.Changes as changes
 use Rattle.stores.specs.Effects as effects
 use Rattle.stores.specs.Answers.{Stored, bodyBy, bytesBy}
-use Rattle.stores.specs.Calls as stores
+use Rattle.stores.specs.Calls as calls
 use Rattle.stored.proofs.Comes.{Comes, and-then, comes-task}
 use Rattle.stored.proofs.Bodies.{first-walked, first-numbered, comes-taken}
 use Rattle.stored.proofs.Calls.{Body, body-comes}
@@ -57,7 +57,7 @@ module _ (z : Size) (k l : List ℕ) (v : ℕ) (a : Sizes z) (q : List ℕ) (que
   handover t = cond t (refused l NothingToDeliver) (accepted v c (task b c .mptr) (changes.clears z (effects.takeFirst z l c) c MHBS))
 
   -- the message is handed over
-  delivers : has (task b c .stat) MHBS ≡ true → Small (stores.deliver z v l c .after) → stores.deliver z v l c ≡ deliver z k (undispatched v b) c
+  delivers : has (task b c .stat) MHBS ≡ true → Small (calls.deliver z v l c .after) → calls.deliver z v l c ≡ deliver z k (undispatched v b) c
   delivers d small =
       let there = runner-says z b (due-runs d) .0 in
       let m : ℕ = task b c .mptr in
@@ -71,11 +71,11 @@ module _ (z : Size) (k l : List ℕ) (v : ℕ) (a : Sizes z) (q : List ℕ) (que
       ∙ ap₂ (λ (x : ℕ) (y : List ℕ). accepted v c x y) (first-walked z l e a q queues s c there) bytes
       ∙ ap (λ (t : Bool). cond t (refused k NothingToDeliver) (accepted v c (firstOf (queue z b c)) (bytesOf (clears (takeFirst z b c) c MHBS)))) (sym full)
 
-  pub dispatch-comes : Small (stores.dispatch z v l c .after) → stores.dispatch z v l c ≡ dispatch z k (undispatched v b)
+  pub dispatch-comes : Small (calls.dispatch z v l c .after) → calls.dispatch z v l c ≡ dispatch z k (undispatched v b)
   dispatch-comes h = go (has (task b c .stat) MHBS) refl h
     where
-      go : (t : Bool) → has (task b c .stat) MHBS ≡ t → Small (cond t (stores.deliver z v l c) (accepted v c 0 l) .after)
-          → cond t (stores.deliver z v l c) (accepted v c 0 l) ≡ cond t (deliver z k (undispatched v b) c) (accepted v c 0 (bytesOf b))
+      go : (t : Bool) → has (task b c .stat) MHBS ≡ t → Small (cond t (calls.deliver z v l c) (accepted v c 0 l) .after)
+          → cond t (calls.deliver z v l c) (accepted v c 0 l) ≡ cond t (deliver z k (undispatched v b) c) (accepted v c 0 (bytesOf b))
       go true d small = delivers d small
       go false d small = ap (accepted v c 0) (comes-bytes z l b (e, refl) small)
 
@@ -88,13 +88,13 @@ module _ (z : Size) (l : List ℕ) (call : Call) (a : Sizes z) (h : Bytes z l) (
   runner = running z before
 
   abbrev made : Stored
-  made = stores.body z l runner call
+  made = calls.body z l runner call
 
   abbrev then : ℕ
-  then = stores.runsThen z runner (made .stirs) (made .after)
+  then = calls.runsThen z runner (made .stirs) (made .after)
 
-  goes : lowest (ownRow z before runner call) ≡ Go → Small (stores.dispatch z (made .value) (made .after) then .after)
-      → stores.dispatch z (made .value) (made .after) then ≡ dispatch z l (body z before runner call)
+  goes : lowest (ownRow z before runner call) ≡ Go → Small (calls.dispatch z (made .value) (made .after) then .after)
+      → calls.dispatch z (made .value) (made .after) then ≡ dispatch z l (body z before runner call)
   goes g small =
       let move = touched before runner call .move in
       let f = fits-board z l h in
@@ -104,18 +104,18 @@ module _ (z : Size) (l : List ℕ) (call : Call) (a : Sizes z) (h : Bytes z l) (
       let after = subst (λ (x : Board). Settled z x (orderAfter before (s .order) move) (queuesAfter before (s .queues) move))
       (sym (c .bytes .1)) (body-settles z before (s .order) (s .queues) call a w t (sound-runner z before a f s) g) in
       let runs : then ≡ running z (boardOf z (made .after)) = c .runs ∙ ap (running z) (sym (c .bytes .1)) in
-      ap (stores.dispatch z (made .value) (made .after)) runs
+      ap (calls.dispatch z (made .value) (made .after)) runs
       ∙ dispatch-comes z l (made .after) (made .value) a (orderAfter before (s .order) move) (queuesAfter before (s .queues) move) (c .bytes .0) after
-      (subst (λ (x : ℕ). Small (stores.dispatch z (made .value) (made .after) x .after)) runs small)
+      (subst (λ (x : ℕ). Small (calls.dispatch z (made .value) (made .after) x .after)) runs small)
       ∙ ap₂ (λ (v : ℕ) (x : Board). dispatch z l (undispatched v x)) (c .value) (c .bytes .1)
 
   by-verdict : (v : Verdict) → lowest (ownRow z before runner call) ≡ v
-      → Small (stores.finish z runner (bodyBy v made) (bytesBy v l (made .after)) .after)
-      → stores.finish z runner (bodyBy v made) (bytesBy v l (made .after)) ≡ judge l v (dispatch z l (body z before runner call))
+      → Small (calls.finish z runner (bodyBy v made) (bytesBy v l (made .after)) .after)
+      → calls.finish z runner (bodyBy v made) (bytesBy v l (made .after)) ≡ judge l v (dispatch z l (body z before runner call))
   by-verdict Go g small = goes g small
   by-verdict (Stop q) g small = refl
 
-  pub call-effect : Small (stores.called z l call .after) → stores.called z l call ≡ effect z l call
+  pub call-effect : Small (calls.called z l call .after) → calls.called z l call ≡ effect z l call
   call-effect small =
       by-verdict (lowest (ownRow z before runner call)) refl small
       ∙ ap (λ (v : Verdict). judge l v (dispatch z l (body z before runner call))) (sym (row-own z l before runner call (h .long) p))
