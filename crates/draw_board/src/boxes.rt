@@ -15,7 +15,6 @@ use board::priority::number;
 use board::records::Message;
 use board::words::message_meant;
 use board::words::place_meant;
-use inner::tests::held_by;
 use telling::print::decimal;
 use telling::print::text;
 
@@ -119,7 +118,8 @@ pub(crate) fn draw_held(b: &[u8], k: TaskNo, below: u32)
     let mut n: u32 = 0;
     while m < 128 {
         m += 1;
-        if held_by(place_meant(Size::SMALL, b, m), k) {
+        let p = place_meant(Size::SMALL, b, m);
+        if p.is_held_by(k) {
             if n == 0 {
                 draw_label(y);
             }

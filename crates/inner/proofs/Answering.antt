@@ -8,72 +8,88 @@ use Rattle.board.specs.declared.numbers.TaskNo.{TaskNo}
 use Rattle.board.specs.declared.numbers.MsgNo.{MsgNo}
 use Rattle.board.specs.declared.numbers.TaskMeant.{TaskMeant}
 use Rattle.board.specs.declared.numbers.TaskMeant.the-variants.{Task, NoTask}
+use Rattle.board.specs.declared.numbers.MessageMeant.{MessageMeant}
 use Rattle.board.specs.declared.numbers.MessageMeant.the-variants.{Message, NoMessage}
 use Rattle.board.specs.declared.places.Place.{Place}
+use Rattle.board.specs.declared.records.Task as records
 use Rattle.board.specs.Numbers.{outside, taskNo, taskMeant, messageMeant}
 use Rattle.board.specs.Places.{isHeldBy}
-use Rattle.board.specs.Board.{Board, boardOf, place}
-use Rattle.board.proofs.Meant.{messageMeant-message, messageMeant-none}
+use Rattle.board.specs.Board.{Board, boardOf, task, place}
+use Rattle.board.proofs.Meant.{taskMeant-task, taskMeant-none, messageMeant-message, messageMeant-none}
 use Rattle.paper.specs.declared.answer.Refusal.the-variants.{NobodyRuns, NoSuchMessage, NotHeld}
-use Rattle.paper.specs.Rules.{present, running}
+use Rattle.paper.specs.Rules.{present, isThere, running}
 use Rattle.paper.specs.Refusals.{no3, no4, no5, Verdict, Go, lowest}
-use Rattle.inner.specs.declared.step.Held.{Held}
-use Rattle.inner.specs.declared.step.Held.the-variants as held
-use Rattle.inner.specs.Inner.{heldBy, heldOf, presentMeant}
-use Rattle.inner.proofs.Rows.{lowest-stop, lowest-on, nobody-runs, one-runs}
+use Rattle.stores.specs.declared.Held.{Held}
+use Rattle.stores.specs.declared.Held.the-variants as held
+use Rattle.stores.specs.Answers.{heldBy, heldOf, presentMeant}
+use Rattle.paper.proofs.Rows.{lowest-stop, lowest-on}
+use Rattle.inner.proofs.Rows.{nobody-runs, one-runs}
 
--- ---- the running task and its message
--- the test of a place that was read
-pub test-reads : (t : Bool) (c : ℕ) (p q : Place) → t ≡ isHeldBy c p → p ≡ q → t ≡ isHeldBy c q
-test-reads t c p q e f = e ∙ ap (isHeldBy c) f
-
-module _ (z : Size) (l : List ℕ) (w : ℕ) where
+-- ---- the running task and its message: x is who runs
+module _ (z : Size) (l : List ℕ) (w : ℕ) {x : TaskMeant} (d : x ≡ taskMeant z (running z (boardOf z l))) where
   abbrev b : Board
   b = boardOf z l
 
   abbrev c : ℕ
   c = running z b
 
-  pub held-nobody : taskMeant z c ≡ NoTask → held.Not NobodyRuns ≡ heldOf z b c w
-  held-nobody e = ap (λ (v : Verdict). heldBy v c w) (sym (lowest-stop (no3 c) (no4 z w ∷ no5 b c w ∷ []) (nobody-runs z l e)))
+  -- 3: nobody
+  pub held-nobody : x ≡ NoTask → held.Not NobodyRuns ≡ heldOf z b c w
+  held-nobody e = ap (λ (v : Verdict). heldBy v c w) (sym (lowest-stop (no3 c) (no4 z w ∷ no5 b c w ∷ []) (nobody-runs z l (sym d ∙ e))))
 
-  module _ (k : TaskNo) (e : taskMeant z c ≡ Task k) where
+  -- k does, and y is the message that w means
+  module _ {k : TaskNo} (e : x ≡ Task k) {y : MessageMeant} (f : y ≡ messageMeant z w) where
+    runner : (no3 c .applies ≡ false) × (k ≡ taskNo c)
+    runner = one-runs z l k (sym d ∙ e)
+
     runs : lowest (no3 c ∷ no4 z w ∷ no5 b c w ∷ []) ≡ lowest (no4 z w ∷ no5 b c w ∷ [])
-    runs = lowest-on (no3 c) (no4 z w ∷ no5 b c w ∷ []) (one-runs z l k e .0)
+    runs = lowest-on (no3 c) (no4 z w ∷ no5 b c w ∷ []) (runner .0)
 
-    pub held-no-message : messageMeant z w ≡ NoMessage → held.Not NoSuchMessage ≡ heldOf z b c w
-    held-no-message f =
-        ap (λ (v : Verdict). heldBy v c w) (sym (runs ∙ lowest-stop (no4 z w) (no5 b c w ∷ []) (messageMeant-none z w f)))
+    -- 4: none
+    pub held-no-message : y ≡ NoMessage → held.Not NoSuchMessage ≡ heldOf z b c w
+    held-no-message g =
+        ap (λ (v : Verdict). heldBy v c w) (sym (runs ∙ lowest-stop (no4 z w) (no5 b c w ∷ []) (messageMeant-none z w (sym f ∙ g))))
 
-    module _ (m : MsgNo) (f : messageMeant z w ≡ Message m) (t : Bool) (h : t ≡ isHeldBy (k .0) (place b (m .0))) where
+    -- it is m, p its place, and t the test of that
+    module _ {m : MsgNo} (g : y ≡ Message m) {p : Place} (i : p ≡ place b (m .0)) {t : Bool} (h : t ≡ isHeldBy (k .0) p) where
+      block : (outside (z .messages) w ≡ false) × (m ≡ record { 0 = w })
+      block = messageMeant-message z w m (sym f ∙ g)
+
       tested : t ≡ isHeldBy c (place b w)
-      tested =
-          h ∙ ap (λ (j : TaskNo). isHeldBy (j .0) (place b (m .0))) (one-runs z l k e .1)
-          ∙ ap (λ (j : MsgNo). isHeldBy c (place b (j .0))) (messageMeant-message z w m f .1)
+      tested = h ∙ ap (isHeldBy (k .0)) i ∙ (λ a. isHeldBy (runner .1 a .0) (place b (block .1 a .0)))
 
       found : lowest (no3 c ∷ no4 z w ∷ no5 b c w ∷ []) ≡ lowest (no5 b c w ∷ [])
-      found = runs ∙ lowest-on (no4 z w) (no5 b c w ∷ []) (messageMeant-message z w m f .0)
+      found = runs ∙ lowest-on (no4 z w) (no5 b c w ∷ []) (block .0)
 
+      -- c holds it
       pub held-yes : t ≡ true → held.By k m ≡ heldOf z b c w
-      held-yes y =
-          (λ i. held.By (one-runs z l k e .1 i) (messageMeant-message z w m f .1 i))
-          ∙ ap (λ (v : Verdict). heldBy v c w) (sym (found ∙ lowest-on (no5 b c w) [] (ap not (sym tested ∙ y))))
+      held-yes q =
+          (λ a. held.By (runner .1 a) (block .1 a))
+          ∙ ap (λ (v : Verdict). heldBy v c w) (sym (found ∙ lowest-on (no5 b c w) [] (ap not (sym tested ∙ q))))
 
+      -- 5: it doesn't
       pub held-not : t ≡ false → held.Not NotHeld ≡ heldOf z b c w
-      held-not y = ap (λ (v : Verdict). heldBy v c w) (sym (found ∙ lowest-stop (no5 b c w) [] (ap not (sym tested ∙ y))))
+      held-not q = ap (λ (v : Verdict). heldBy v c w) (sym (found ∙ lowest-stop (no5 b c w) [] (ap not (sym tested ∙ q))))
 
 -- ---- a task that is present
-pub present-meant : (z : Size) (l : List ℕ) (w : ℕ) (x : TaskMeant) → present (boardOf z l) w ≡ true → x ≡ taskMeant z w
-    → x ≡ presentMeant z (boardOf z l) w
-present-meant z l w x p e = e ∙ go (outside (z .tasks) w)
-  where
-    go : (t : Bool) → cond t NoTask (Task (taskNo w)) ≡ cond (t || not (present (boardOf z l) w)) NoTask (Task (taskNo w))
-    go true = refl
-    go false = ap (λ (s : Bool). cond (not s) NoTask (Task (taskNo w))) (sym p)
+module _ (z : Size) (l : List ℕ) (w : ℕ) {x : TaskMeant} (e : x ≡ taskMeant z w) where
+  -- the board has no such number
+  pub absent-outside : x ≡ NoTask → NoTask ≡ presentMeant z (boardOf z l) w
+  absent-outside f = ap (λ (t : Bool). cond (t || not (present (boardOf z l) w)) NoTask (Task (taskNo w))) (sym (taskMeant-none z w (sym e ∙ f)))
 
-pub absent-meant : (z : Size) (l : List ℕ) (w : ℕ) → present (boardOf z l) w ≡ false → NoTask ≡ presentMeant z (boardOf z l) w
-absent-meant z l w p = go (outside (z .tasks) w)
-  where
-    go : (t : Bool) → NoTask ≡ cond (t || not (present (boardOf z l) w)) NoTask (Task (taskNo w))
-    go true = refl
-    go false = ap (λ (s : Bool). cond (not s) NoTask (Task (taskNo w))) (sym p)
+  -- it has task k, of record t, and u is the test that it is there
+  module _ {k : TaskNo} (f : x ≡ Task k) {t : records.Task} (g : t ≡ task (boardOf z l) (k .0)) {u : Bool} (h : u ≡ isThere t) where
+    there : u ≡ present (boardOf z l) w
+    there = h ∙ ap isThere (g ∙ ap (λ (j : TaskNo). task (boardOf z l) (j .0)) (taskMeant-task z w k (sym e ∙ f) .1))
+
+    by : cond (not u) NoTask (Task (taskNo w)) ≡ presentMeant z (boardOf z l) w
+    by = λ i. cond (sym (taskMeant-task z w k (sym e ∙ f) .0) i || not (there i)) NoTask (Task (taskNo w))
+
+    -- it is
+    pub present-task : u ≡ true → Task k ≡ presentMeant z (boardOf z l) w
+    present-task y =
+        ap Task (taskMeant-task z w k (sym e ∙ f) .1) ∙ ap (λ (v : Bool). cond (not v) NoTask (Task (taskNo w))) (sym y) ∙ by
+
+    -- it is not
+    pub absent-task : u ≡ false → NoTask ≡ presentMeant z (boardOf z l) w
+    absent-task y = ap (λ (v : Bool). cond (not v) NoTask (Task (taskNo w))) (sym y) ∙ by

@@ -1,3 +1,4 @@
+pub mod Runner
 pub mod Rows
 pub mod Answering
 pub mod Steps

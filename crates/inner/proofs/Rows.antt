@@ -1,7 +1,7 @@
 -- A row of refusals, test by test: what the answers of inner steps say of the verdict. Assumes nothing.
 use mathlib.Core.Path.{_≡_, refl, sym, ap, _∙_}
 use mathlib.Core.Logic.{_≢_}
-use mathlib.Core.Bool.{Bool, true, false, cond, not, _||_}
+use mathlib.Core.Bool.{Bool, true, false, cond, not, _||_, true≢false}
 use mathlib.Core.List.{List, [], _∷_, _++_}
 use Prim.Native.Nat.{ℕ}
 use native.Mathlib.Omega.{arith}
@@ -15,25 +15,16 @@ use Rattle.board.specs.declared.numbers.TaskMeant.{TaskMeant}
 use Rattle.board.specs.declared.numbers.TaskMeant.the-variants.{Task, NoTask}
 use Rattle.board.specs.Numbers.{outside, taskNo, taskMeant}
 use Rattle.board.specs.Board.{Board, boardOf}
-use Rattle.board.proofs.Pieces.{outside-within, within-outside}
+use Rattle.board.proofs.Pieces.{outside-within}
 use Rattle.board.proofs.Meant.{taskMeant-task, taskMeant-none}
-use Rattle.board.proofs.Codec.{length-tasks}
 use Rattle.paper.specs.declared.answer.Refusal.{Refusal}
 use Rattle.paper.specs.Rules.{present, running}
 use Rattle.paper.specs.Refusals.{Test, no3, no4, no5, no6, Verdict, Go, Stop, lowest}
-use Rattle.inner.specs.declared.step.Held.{Held}
-use Rattle.inner.specs.declared.step.Held.the-variants as held
-use Rattle.inner.specs.Inner.{heldBy, heldOf, presentMeant}
-use Rattle.linked.proofs.Running.{present-numbered, runner-says}
-
--- ---- one test
--- a test that applies stops
-pub lowest-stop : (t : Test) (tests : List Test) → t .applies ≡ true → lowest (t ∷ tests) ≡ Stop (t .refusal)
-lowest-stop t tests e = rw (e, lowest)
-
--- one that does not is passed
-pub lowest-on : (t : Test) (tests : List Test) → t .applies ≡ false → lowest (t ∷ tests) ≡ lowest tests
-lowest-on t tests e = rw (e, lowest)
+use Rattle.paper.proofs.Rows.{lowest-stop, lowest-on}
+use Rattle.stores.specs.declared.Held.{Held}
+use Rattle.stores.specs.declared.Held.the-variants as held
+use Rattle.stores.specs.Answers.{heldBy, heldOf, presentMeant}
+use Rattle.inner.proofs.Runner.{runner-within}
 
 -- ---- several
 abbrev orElse : Verdict → Verdict → Verdict
@@ -50,13 +41,6 @@ lowest-append (t ∷ a) b = go (t .applies) (lowest-append a b)
     go false e = e
 
 -- ---- who runs
--- the running task is 0 or a number of the board
-runner-within : (z : Size) (l : List ℕ) → running z (boardOf z l) ≢ 0 → outside (z .tasks) (running z (boardOf z l)) ≡ false
-runner-within z l n =
-    let r : ℕ = running z (boardOf z l) in
-    let p = present-numbered (boardOf z l) r (runner-says z (boardOf z l) n .0) in
-    within-outside (z .tasks) r (p .0) (let e = length-tasks z l in omega (arith, p .1))
-
 -- nobody runs: 3 applies
 pub nobody-runs : (z : Size) (l : List ℕ) → taskMeant z (running z (boardOf z l)) ≡ NoTask → no3 (running z (boardOf z l)) .applies ≡ true
 nobody-runs z l e = go (ℕ-discrete r 0)
@@ -66,7 +50,7 @@ nobody-runs z l e = go (ℕ-discrete r 0)
 
     go : Dec (r ≡ 0) → eqb r 0 ≡ true
     go (yes q) = eq-eqb r 0 q
-    go (no n) = absurd (let x : true ≡ false = sym (taskMeant-none z r e) ∙ runner-within z l n in let y : _≡_ {A = ℕ} 1 0 = ap (λ (t : Bool). cond t 1 0) x in omega arith)
+    go (no n) = absurd (true≢false (sym (taskMeant-none z r e) ∙ runner-within z l n))
 
 -- one does: 3 does not apply, and it is that one
 pub one-runs : (z : Size) (l : List ℕ) (c : TaskNo) → taskMeant z (running z (boardOf z l)) ≡ Task c

@@ -13,7 +13,6 @@ use board::priority::number;
 use board::records::Message;
 use board::words::message_meant;
 use board::words::place_meant;
-use inner::tests::held_by;
 use telling::print::decimal_in;
 use telling::print::pad;
 use telling::print::text;
@@ -92,7 +91,8 @@ pub(crate) fn show_held(b: &[u8], k: TaskNo)
     let mut empty: u16 = 0;
     while m < 128 {
         m += 1;
-        if held_by(place_meant(Size::SMALL, b, m), k) {
+        let p = place_meant(Size::SMALL, b, m);
+        if p.is_held_by(k) {
             start(b"holds", n, empty);
             empty = show_held_one(m, message_meant(Size::SMALL, b, m));
             n += 1;

@@ -6,11 +6,14 @@ use denote.Enum.Laws.{val}
 use Rattle.paper.proofs.call.Call.{the-type}
 use Rattle.paper.proofs.call.Call.Laws.{the-laws}
 use Rattle.paper.specs.declared.call.Call.{Call}
-use Rattle.paper.specs.declared.call.Call.the-variants.{Install, PostInterrupt, Find, CancelTask, Claim, Prepare, Release, Send, SendAndWait, Resend, ResendAndWait, Forward, ForwardAndWait, Return, ReturnAndWait, Receive, ReceiveAndWait, CancelMessage, WaitForInterrupt}
+use Rattle.paper.specs.declared.call.Call.the-variants.{Install, PostInterrupt, Find, CancelTask, Claim, Prepare, Release, Send}
+use Rattle.paper.specs.declared.call.Call.the-variants.{SendAndWait, Resend, ResendAndWait, Forward, ForwardAndWait, Return, ReturnAndWait}
+use Rattle.paper.specs.declared.call.Call.the-variants.{Receive, ReceiveAndWait, CancelMessage, WaitForInterrupt}
 use Rattle.kept.specs.Settled.{Fitting}
 
 pub fitted : (call : Call) → Is (row the-type) call (val the-type the-laws call ∷ []) → Fitting call
-fitted (Install k s p sptr name) g = let f = g .1 .1 .1 .1 in ((f .0 .1, (f .1 .1 .1 .0 .1, (f .1 .1 .1 .1 .0 .1, tt))), (f .1 .0 .1, (f .1 .1 .0 .1, tt)))
+fitted (Install k s p sptr name) g =
+    let f = g .1 .1 .1 .1 in ((f .0 .1, (f .1 .1 .1 .0 .1, (f .1 .1 .1 .1 .0 .1, tt))), (f .1 .0 .1, (f .1 .1 .0 .1, tt)))
 fitted (PostInterrupt k) g = ((g .1 .1 .1 .1 .0 .1, tt), tt)
 fitted (Find name) g = ((g .1 .1 .1 .1 .0 .1, tt), tt)
 fitted (CancelTask k) g = ((g .1 .1 .1 .1 .0 .1, tt), tt)

@@ -1,7 +1,7 @@
 -- A kind that is none of the nineteen is no call. Assumes nothing.
 use mathlib.Core.Path.{_≡_, sym, ap}
 use mathlib.Core.Logic.{_≢_}
-use Prim.Native.Nat.{ℕ, suc, _≤_}
+use Prim.Native.Nat.{ℕ, zero, suc, _≤_}
 use native.Mathlib.Omega.{arith}
 use native.Mathlib.Decide.{ℕ-discrete}
 use lib.ListN.{List·getD-eq-default}
@@ -15,6 +15,12 @@ no-call k a b c s p h = go (ℕ-discrete k 0)
     go (yes e) = ap (λ (x : ℕ). askedOf x a b c s p) (sym e)
     go (no n) = sym (List·getD-eq-default (byKind a b c s p) NoCall (h n))
 
--- a number that is at least n and not n
-pub above : (k n : ℕ) → n ≤ k → k ≢ n → suc n ≤ k
-above k n h d = omega (arith, d)
+-- what is left of a match on the numbers 1 to n, the last of them outermost
+abbrev NoneOf : Type 0 → ℕ → ℕ → Type 0
+NoneOf first zero k = first
+NoneOf first (suc n) k = NoneOf first n k × (k ≢ suc n)
+
+-- is 0 or above them all
+pub above : (first : Type 0) (n k : ℕ) → NoneOf first n k → k ≢ 0 → suc n ≤ k
+above first zero k r h = omega (arith, h)
+above first (suc n) k r h = let e = above first n k (r .0) h in omega (arith, r .1)

@@ -1,55 +1,67 @@
 -- What a call answers and leaves, by the tests that code makes: 1, 2, or what the call made of a board that passes. Assumes nothing.
 use mathlib.Core.Path.{_≡_, ap, _∙_, subst}
-use mathlib.Core.Bool.{true, false, not}
+use mathlib.Core.Bool.{Bool, true, false, not}
 use mathlib.Core.List.{List, _∷_}
 use Prim.Native.Nat.{ℕ, _<_}
 use lib.ListN.{length, getD}
 use lib.Dec.{eqb}
-use borrow.Author.Tests.{eqb-true}
+use Rattle.board.specs.declared.numbers.TaskMeant.{TaskMeant}
 use Rattle.board.specs.Numbers.{small}
-use Rattle.board.specs.Board.{Board, boardOf}
+use Rattle.board.specs.Board.{Board, boardOf, total}
 use Rattle.board.proofs.Codec.{Small, small-bytes}
 use Rattle.paper.specs.declared.call.Call.{Call}
 use Rattle.paper.specs.declared.answer.Answer.{Answer}
 use Rattle.paper.specs.declared.answer.Answer.the-variants.{Refused}
 use Rattle.paper.specs.declared.answer.Refusal.the-variants.{WrongLength, RuleBroken}
-use Rattle.paper.specs.Rules.{running, passes}
-use Rattle.paper.specs.Refusals.{no1, no2, ownRow, Verdict, Stop}
+use Rattle.paper.specs.Rules.{running}
+use Rattle.paper.specs.Refusals.{no1, no2, ownRow, Verdict}
 use Rattle.paper.specs.Outcomes.{Outcome, Ends, judge, body, dispatch, effect}
 use Rattle.kept.specs.Settled.{Fitting}
 use Rattle.kept.specs.Claims.{Bytes}
 use Rattle.kept.proofs.Theorems.{small-sizes}
-use Rattle.inner.specs.Stores.{calledIn}
-use Rattle.inner.proofs.Rows.{lowest-stop, lowest-on}
+use Rattle.stores.specs.Answers.{Runs}
+use Rattle.stores.specs.Calls.{called}
+use Rattle.rules.specs.declared.Checked.{Checked}
+use Rattle.rules.specs.declared.Checked.the-variants.{Passes, Broken}
+use Rattle.rules.specs.Checked.{checkedOf}
+use Rattle.paper.proofs.Rows.{lowest-stop, lowest-on}
 use Rattle.stored.proofs.Theorems.{call-effect}
-use Rattle.station.proofs.Answers.{ends}
+use Rattle.inner.proofs.Steps.{ends}
+use Rattle.station.proofs.Answers.{sized-not, sized-so, sized-long, sized-whole, rules-broken, rules-kept}
 
-module _ (l : List ℕ) (call : Call) where
+-- s is the test of the length
+module _ (l : List ℕ) (call : Call) {s : Bool} (es : s ≡ eqb (length l) (total small)) where
   abbrev b : Board
   b = boardOf small l
 
   abbrev c : ℕ
   c = running small b
 
+  -- the outcome by the verdict of the row
+  abbrev by : Verdict → Outcome
+  by v = judge l v (dispatch small l (body small b c call))
+
   -- 1
-  pub step-length : eqb (length l) 1476 ≡ false → Ends (Refused WrongLength) l (effect small l call)
-  step-length h =
-      ends _ l (effect small l call)
-      (ap (λ (v : Verdict). judge l v (dispatch small l (body small b c call)))
-      (lowest-stop (no1 small l) (no2 small b ∷ ownRow small b c call) (ap not h)))
+  pub step-length : not s ≡ true → Ends (Refused WrongLength) l (effect small l call)
+  step-length h = ends (ap by (lowest-stop (no1 small l) (no2 small b ∷ ownRow small b c call) (ap not (sized-not l es h))))
 
-  -- 2
-  pub step-broken : eqb (length l) 1476 ≡ true → passes small b ≡ false → Ends (Refused RuleBroken) l (effect small l call)
-  step-broken e p =
-      ends _ l (effect small l call)
-      (ap (λ (v : Verdict). judge l v (dispatch small l (body small b c call)))
-      (lowest-on (no1 small l) (no2 small b ∷ ownRow small b c call) (ap not e)
-      ∙ lowest-stop (no2 small b) (ownRow small b c call) (ap not p)))
+  -- it is right, and x is what the check of the rules says
+  module _ (h : not s ≡ false) {x : Checked} (ex : x ≡ checkedOf small b) where
+    -- 2
+    pub step-broken : x ≡ Broken → Ends (Refused RuleBroken) l (effect small l call)
+    step-broken p =
+        let on = lowest-on (no1 small l) (no2 small b ∷ ownRow small b c call) (ap not (sized-so l es h)) in
+        ends (ap by (on ∙ lowest-stop (no2 small b) (ownRow small b c call) (ap not (rules-broken l ex p))))
 
-  -- the call was made
-  pub step-made : (a : Answer) (d : List ℕ) → eqb (length l) 1476 ≡ true → ((i : ℕ) → getD l i 0 < 256) → ((i : ℕ) → getD d i 0 < 256) → Fitting call
-      → passes small b ≡ true → Ends a d (calledIn small l call) → Ends a d (effect small l call)
-  step-made a d e h g w p m =
-      let s : Small (calledIn small l call .after) = subst Small (m .leaves) (small-bytes d g) in
-      let x = call-effect small l call small-sizes (record { long = eqb-true (length l) 1476 e; bytes = h }) w p s in
-      record { answers = m .answers ∙ ap (λ (o : Outcome). o .answer) x; leaves = m .leaves ∙ ap (λ (o : Outcome). o .after) x }
+    module _ {w : TaskMeant} (p : x ≡ Passes w) where
+      -- what a call asks for
+      pub step-asks : Runs small l w
+      step-asks = (sized-whole l es h, rules-kept l ex p .1)
+
+      -- the call was made
+      pub step-made : ((i : ℕ) → getD l i 0 < 256) → Fitting call → {a : Answer} {d : List ℕ} → ((i : ℕ) → getD d i 0 < 256)
+          → Ends a d (called small l call) → Ends a d (effect small l call)
+      step-made n f {a = a} {d = d} g m =
+          let k : Small (called small l call .after) = subst Small (m .leaves) (small-bytes d g) in
+          let long : Bytes small l = record { long = sized-long l es h; bytes = n } in
+          subst (Ends a d) (call-effect small l call small-sizes long f (rules-kept l ex p .0) k) m

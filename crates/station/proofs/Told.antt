@@ -12,8 +12,13 @@ use Rattle.station.specs.declared.asked.Asked.the-variants.{Made, NoCall
 use Rattle.station.specs.Packed.{packed}
 use Rattle.station.specs.Called.{wordFor, leftFor}
 
-pub no-call-told : (l : List ℕ) (asked : Asked) → asked ≡ NoCall → (255 ≡ wordFor l asked) × (l ≡ leftFor l asked)
-no-call-told l asked e = (ap (wordFor l) (sym e), ap (leftFor l) (sym e))
+-- x is the call that was asked for
+module _ (l : List ℕ) {x asked : Asked} (ex : x ≡ asked) where
+  pub no-call-told : x ≡ NoCall → (255 ≡ wordFor l asked) × (l ≡ leftFor l asked)
+  no-call-told e = let f = sym e ∙ ex in (ap (wordFor l) f, ap (leftFor l) f)
 
-pub made-told : (l d : List ℕ) (asked : Asked) (call : Call) (a : Answer) → asked ≡ Made call → {w : ℕ} → w ≡ packed (handed a) → Ends a d (effect small l call) → (w ≡ wordFor l asked) × (d ≡ leftFor l asked)
-made-told l d asked call a e p m = (p ∙ ap (λ (x : Answer). packed (handed x)) (m .answers) ∙ ap (wordFor l) (sym e), m .leaves ∙ ap (leftFor l) (sym e))
+  pub made-told : {call : Call} {a : Answer} {d : List ℕ} {w : ℕ} → x ≡ Made call → w ≡ packed (handed a)
+      → Ends a d (effect small l call) → (w ≡ wordFor l asked) × (d ≡ leftFor l asked)
+  made-told e p m =
+      let f = sym e ∙ ex in
+      (p ∙ ap (λ (x : Answer). packed (handed x)) (m .answers) ∙ ap (wordFor l) f, m .leaves ∙ ap (leftFor l) f)

@@ -1,4 +1,3 @@
-pub mod Meant
 pub mod Packed
 pub mod Asked
 pub mod Called

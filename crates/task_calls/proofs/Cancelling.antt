@@ -21,11 +21,12 @@ use Rattle.paper.specs.declared.call.Call.the-variants.{CancelTask}
 use Rattle.paper.specs.declared.answer.Refusal.the-variants.{NobodyRuns, NoSuchTask, TaskBusy}
 use Rattle.paper.specs.Rules.{running}
 use Rattle.paper.specs.Refusals.{holdsOne, no3, no6, no10, lowest}
-use Rattle.queue.specs.Moves.{orderOut}
-use Rattle.inner.specs.declared.step.Step.the-variants.{Done, Stopped}
-use Rattle.inner.specs.Inner.{presentMeant}
-use Rattle.inner.specs.Stores.{Makes, verdict, stepping}
-use Rattle.inner.proofs.Rows.{lowest-stop, lowest-on, nobody-runs, one-runs, task-row, no-task-row}
+use Rattle.stores.specs.Moves.{orderOut}
+use Rattle.stores.specs.declared.Body.the-variants.{Done, Stopped}
+use Rattle.stores.specs.Answers.{presentMeant, Makes}
+use Rattle.stores.specs.Calls.{verdict, stepping}
+use Rattle.paper.proofs.Rows.{lowest-stop, lowest-on}
+use Rattle.inner.proofs.Rows.{nobody-runs, one-runs, task-row, no-task-row}
 use Rattle.inner.proofs.Steps.{stops, does}
 
 module _ (z : Size) (l : List ℕ) (k : ℕ) where
@@ -42,7 +43,7 @@ module _ (z : Size) (l : List ℕ) (k : ℕ) where
   module _ {x : TaskMeant} (d : x ≡ taskMeant z c) where
     -- 3: nobody
     pub cancel-nobody : x ≡ means.NoTask → Makes (Stopped NobodyRuns) l (stepping z l call)
-    cancel-nobody e = stops z l call _ l (lowest-stop (no3 c) (no6 z b k ∷ no10 b k ∷ []) (nobody-runs z l (sym d ∙ e))) refl
+    cancel-nobody e = stops z l call (lowest-stop (no3 c) (no6 z b k ∷ no10 b k ∷ []) (nobody-runs z l (sym d ∙ e))) refl
 
     -- one does, and m is what k means
     module _ {r : TaskNo} (e : x ≡ means.Task r) {m : TaskMeant} (f : m ≡ presentMeant z b k) where
@@ -51,7 +52,7 @@ module _ (z : Size) (l : List ℕ) (k : ℕ) where
 
       -- 6: no task
       pub cancel-no-task : m ≡ means.NoTask → Makes (Stopped NoSuchTask) l (stepping z l call)
-      cancel-no-task g = stops z l call _ l (runs ∙ lowest-stop (no6 z b k) (no10 b k ∷ []) (no-task-row z b k (sym f ∙ g))) refl
+      cancel-no-task g = stops z l call (runs ∙ lowest-stop (no6 z b k) (no10 b k ∷ []) (no-task-row z b k (sym f ∙ g))) refl
 
       -- task n, of record t
       module _ {n : TaskNo} (g : m ≡ means.Task n) {t : Task} (s : t ≡ task b (n .0)) where
@@ -65,7 +66,7 @@ module _ (z : Size) (l : List ℕ) (k : ℕ) where
         there = runs ∙ lowest-on (no6 z b k) (no10 b k ∷ []) (task-row z b k n (sym f ∙ g) .0)
 
         busy : no10 b k .applies ≡ true → Makes (Stopped TaskBusy) l (stepping z l call)
-        busy y = stops z l call _ l (there ∙ lowest-stop (no10 b k) [] y) refl
+        busy y = stops z l call (there ∙ lowest-stop (no10 b k) [] y) refl
 
         tested : (u : Bool) → eqb (t .mptr) 0 ≡ u → no10 b k .applies ≡ not u || holdsOne b k || has (t .stat) IWAT
         tested u h = rw (← read, h)
@@ -96,8 +97,8 @@ module _ (z : Size) (l : List ℕ) (k : ℕ) where
 
             -- it doesn't: it is taken out of the task queue, and its record is none
             pub cancels : {out after : List ℕ} {none : Task} → v ≡ false → out ≡ orderOut z l (n .0) → none ≡ noTask
-                → after ≡ putTask z out (n .0) none → Makes (Done 0) after (stepping z l call)
+                → after ≡ putTask z out (n .0) none → Makes (Done 0 true) after (stepping z l call)
             cancels y o p a =
-                does z l call _ _ (there ∙ lowest-on (no10 b k) [] (waiting ∙ y)) refl
+                does z l call (there ∙ lowest-on (no10 b k) [] (waiting ∙ y)) refl
                 (a ∙ ap₂ (λ (x : List ℕ) (w : Task). putTask z x (n .0) w) o p
                 ∙ ap (λ (x : TaskNo). putTask z (orderOut z l (x .0)) (x .0) noTask) meant)

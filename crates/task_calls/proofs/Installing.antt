@@ -19,10 +19,11 @@ use Rattle.paper.specs.declared.call.Call.the-variants.{Install}
 use Rattle.paper.specs.declared.answer.Refusal.the-variants.{BadPriority, NotInstallable, BadStatus}
 use Rattle.paper.specs.Rules.{present, isThere, taskPrio}
 use Rattle.paper.specs.Refusals.{no7Install, no8, no9, lowest}
-use Rattle.queue.specs.Moves.{orderInto}
-use Rattle.inner.specs.declared.step.Step.the-variants.{Done, Stopped}
-use Rattle.inner.specs.Stores.{Makes, verdict, stepping}
-use Rattle.inner.proofs.Rows.{lowest-stop, lowest-on}
+use Rattle.stores.specs.Moves.{orderInto}
+use Rattle.stores.specs.declared.Body.the-variants.{Done, Stopped}
+use Rattle.stores.specs.Answers.{Makes}
+use Rattle.stores.specs.Calls.{verdict, stepping}
+use Rattle.paper.proofs.Rows.{lowest-stop, lowest-on}
 use Rattle.inner.proofs.Steps.{stops, does}
 
 module _ (z : Size) (l : List ℕ) (k s p sptr name : ℕ) where
@@ -40,7 +41,7 @@ module _ (z : Size) (l : List ℕ) (k s p sptr name : ℕ) where
   module _ {t : Bool} (e : t ≡ taskPrio p) where
     -- 7: it fails
     pub install-priority : not t ≡ true → Makes (Stopped BadPriority) l (stepping z l call)
-    install-priority h = stops z l call _ l (lowest-stop (no7Install p) (no8 z b k ∷ no9 s ∷ []) (ap not (sym e) ∙ h)) refl
+    install-priority h = stops z l call (lowest-stop (no7Install p) (no8 z b k ∷ no9 s ∷ []) (ap not (sym e) ∙ h)) refl
 
     -- it doesn't, and m is what k means
     module _ (h : not t ≡ false) {m : TaskMeant} (d : m ≡ taskMeant z k) where
@@ -51,7 +52,7 @@ module _ (z : Size) (l : List ℕ) (k s p sptr name : ℕ) where
       pub install-outside : m ≡ means.NoTask → Makes (Stopped NotInstallable) l (stepping z l call)
       install-outside f =
           let o = taskMeant-none z k (sym d ∙ f) in
-          stops z l call _ l (passed ∙ lowest-stop (no8 z b k) (no9 s ∷ []) (ap (λ (x : Bool). x || present b k) o)) refl
+          stops z l call (passed ∙ lowest-stop (no8 z b k) (no9 s ∷ []) (ap (λ (x : Bool). x || present b k) o)) refl
 
       -- task n, of record r, and u is the test that it is there
       module _ {n : TaskNo} (f : m ≡ means.Task n) {r : Task} (g : r ≡ task b (n .0)) {u : Bool} (i : u ≡ isThere r) where
@@ -65,7 +66,7 @@ module _ (z : Size) (l : List ℕ) (k s p sptr name : ℕ) where
 
         -- 8: it is
         pub install-there : u ≡ true → Makes (Stopped NotInstallable) l (stepping z l call)
-        install-there j = stops z l call _ l (passed ∙ lowest-stop (no8 z b k) (no9 s ∷ []) (there ∙ j)) refl
+        install-there j = stops z l call (passed ∙ lowest-stop (no8 z b k) (no9 s ∷ []) (there ∙ j)) refl
 
         -- it isn't, and v is the test of the status w
         module _ (j : u ≡ false) {w : Status} (o : w ≡ stored s) {v : Bool} (q : v ≡ no9 (w .0) .applies) where
@@ -77,11 +78,11 @@ module _ (z : Size) (l : List ℕ) (k s p sptr name : ℕ) where
 
           -- 9: it is bad
           pub install-status : v ≡ true → Makes (Stopped BadStatus) l (stepping z l call)
-          install-status y = stops z l call _ l (absent ∙ lowest-stop (no9 s) [] (tested ∙ y)) refl
+          install-status y = stops z l call (absent ∙ lowest-stop (no9 s) [] (tested ∙ y)) refl
 
           -- it is not: the task goes into the task queue
           pub installs : {after : List ℕ} → v ≡ false → after ≡ orderInto z l (n .0) (made w)
-              → Makes (Done 0) after (stepping z l call)
+              → Makes (Done 0 true) after (stepping z l call)
           installs y a =
-              does z l call _ _ (absent ∙ lowest-on (no9 s) [] (tested ∙ y)) refl
+              does z l call (absent ∙ lowest-on (no9 s) [] (tested ∙ y)) refl
               (a ∙ ap₂ (λ (x : TaskNo) (t : Status). orderInto z l (x .0) (made t)) meant o)

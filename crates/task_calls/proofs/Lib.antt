@@ -2,4 +2,3 @@ mod Naming
 mod Holding
 mod Installing
 mod Cancelling
-mod Interrupting

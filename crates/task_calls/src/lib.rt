@@ -1,33 +1,30 @@
-// CODE. The bodies of the calls on tasks: install, cancel task, find, post and wait for interrupt. Each tests the refusals of its row in
-// the paper's order, and only then writes.
+// CODE. The bodies of the calls on tasks: install, cancel task and find. Each tests the refusals of its row in the paper's order, and only
+// then writes.
 ghost use mathlib.Core.Path.{_≡_};
 ghost use Prim.Native.Nat.{_≤_};
 ghost use lib.ListN.{length};
+ghost use Rattle.board.specs.Numbers.{numberOfTask};
 ghost use Rattle.board.specs.Board.{boardOf, total};
 ghost use Rattle.paper.specs.declared.call.Call.the-variants as calls;
-ghost use Rattle.paper.specs.Effects.{find};
 ghost use Rattle.paper.specs.Refusals.{holdsOne, no9};
-ghost use Rattle.inner.specs.Stores.{Makes, stepping};
-use board::bytes::first_task;
-use board::bytes::put_task;
-use board::bytes::task_at;
+ghost use Rattle.stores.specs.Effects.{find};
+ghost use Rattle.stores.specs.Answers.{Runs, Makes};
+ghost use Rattle.stores.specs.Calls.{stepping};
 use board::numbers::Size;
 use board::numbers::TaskMeant;
 use board::numbers::TaskNo;
 use board::records::Task;
 use board::status::Status;
-use board::words::place_meant;
-use board::words::task_meant;
-use inner::step::Step;
-use inner::tests::held_by;
-use inner::tests::present_task;
+use inner::refusals::present_task;
+use lent::by_word::place_meant;
+use lent::bytes::first_task;
+use lent::bytes::put_task;
+use lent::bytes::task_at;
 use paper::answer::Refusal;
-use queue::changes::clear_bit;
-use queue::changes::set_bit;
-use queue::tasks::into_order;
-use queue::tasks::out_of_order;
-use rules::records::task_prio;
-use rules::who::running;
+use record_rules::task_prio;
+use stores::Body;
+use task_queue::into_order;
+use task_queue::out_of_order;
 
 // A status that a task can't be installed with: TCBB clear, or a flag set that only calls set.
 fn bad_status(s: Status) -> bool
@@ -51,24 +48,24 @@ fn bad_status(s: Status) -> bool
     s.has(Status::MHBS)
 }
 
-pub fn install(z: Size, b: &mut [u8], k: u16, stat: u8, prio: u8, sptr: u16, name: u16) -> Step
-    requires { ⌜ total z ≤ length (now b) ⌝ }
-    ensures { λ res. ⌜ Makes res (now (b .exit)) (stepping z (now (b .entry)) (calls.Install k stat prio sptr name)) ⌝ }
+pub fn install(z: Size, l: &mut [u8], k: u16, stat: u8, prio: u8, sptr: u16, name: u16) -> Body
+    requires { ⌜ total z ≤ length (now l) ⌝ }
+    ensures { λ res. ⌜ Makes res (now (l .exit)) (stepping z (now (l .entry)) (calls.Install k stat prio sptr name)) ⌝ }
 {
     if !task_prio(prio) {
-        return Step::Stopped(Refusal::BadPriority);
+        return Body::Stopped(Refusal::BadPriority);
     }
     let meant = TaskNo::meant(z, k);
     let TaskMeant::Task(n) = meant else {
-        return Step::Stopped(Refusal::NotInstallable);
+        return Body::Stopped(Refusal::NotInstallable);
     };
-    let old = task_at(z, b, n);
+    let old = task_at(z, l, n);
     if old.present() {
-        return Step::Stopped(Refusal::NotInstallable);
+        return Body::Stopped(Refusal::NotInstallable);
     }
     let s = Status::stored(stat);
     if bad_status(s) {
-        return Step::Stopped(Refusal::BadStatus);
+        return Body::Stopped(Refusal::BadStatus);
     }
     let t = Task {
         stat: s,
@@ -78,114 +75,88 @@ pub fn install(z: Size, b: &mut [u8], k: u16, stat: u8, prio: u8, sptr: u16, nam
         sptr: sptr,
         name: name,
     };
-    into_order(z, b, n, t);
-    Step::Done(0)
-}
-
-pub fn post_interrupt(z: Size, b: &mut [u8], k: u16) -> Step
-    requires { ⌜ total z ≤ length (now b) ⌝ }
-    ensures { λ res. ⌜ Makes res (now (b .exit)) (stepping z (now (b .entry)) (calls.PostInterrupt k)) ⌝ }
-{
-    let meant = present_task(z, b, k);
-    let TaskMeant::Task(n) = meant else {
-        return Step::Stopped(Refusal::NoSuchTask);
-    };
-    let t = task_at(z, b, n);
-    let s = t.stat;
-    if s.has(Status::IWAT) {
-        clear_bit(z, b, n, Status::IWAT);
-    } else {
-        set_bit(z, b, n, Status::INTQ);
+    into_order(z, l, n, t);
+    Body::Done {
+        value: 0,
+        stirs: true,
     }
-    Step::Done(0)
 }
 
-// The first task in queue order with that name, 0 if none.
-fn named(z: Size, b: &[u8], name: u16) -> u16
-    requires { ⌜ total z ≤ length (now b) ⌝ }
-    ensures { λ res. ⌜ res ≡ find z (boardOf z (now (b .entry))) name ⌝ }
+// The first task in queue order with that name, if any.
+fn named(z: Size, l: &[u8], name: u16) -> TaskMeant
+    requires { ⌜ total z ≤ length (now l) ⌝ }
+    ensures { λ res. ⌜ numberOfTask res ≡ find z (now (l .entry)) name ⌝ }
 {
-    let mut k = first_task(b) as u16;
+    let mut cur = first_task(z, l);
     let mut left = z.messages;
     while 0 < left {
-        if k == 0 {
-            return 0;
-        }
-        let t = task_meant(z, b, k);
+        let TaskMeant::Task(k) = cur else {
+            return cur;
+        };
+        let t = task_at(z, l, k);
         if t.name == name {
-            return k;
+            return cur;
         }
-        k = t.link;
+        cur = t.next(z);
         left -= 1;
     }
-    0
+    TaskMeant::NoTask
 }
 
-pub fn find_task(z: Size, b: &[u8], name: u16) -> Step
-    requires { ⌜ total z ≤ length (now b) ⌝ }
-    ensures { λ res. ⌜ Makes res (now (b .entry)) (stepping z (now (b .entry)) (calls.Find name)) ⌝ }
+pub fn find_task(z: Size, l: &[u8], name: u16) -> Body
+    requires { ⌜ total z ≤ length (now l) ⌝ }
+    ensures { λ res. ⌜ Makes res (now (l .entry)) (stepping z (now (l .entry)) (calls.Find name)) ⌝ }
 {
-    Step::Done(named(z, b, name))
+    let k = named(z, l, name);
+    Body::Done {
+        value: k.number(),
+        stirs: false,
+    }
 }
 
 // True if task k holds a message.
-fn holds_one(z: Size, b: &[u8], k: TaskNo) -> bool
-    requires { ⌜ total z ≤ length (now b) ⌝ }
-    ensures { λ res. ⌜ res ≡ holdsOne (boardOf z (now (b .entry))) (k .0) ⌝ }
+fn holds_one(z: Size, l: &[u8], k: TaskNo) -> bool
+    requires { ⌜ total z ≤ length (now l) ⌝ }
+    ensures { λ res. ⌜ res ≡ holdsOne (boardOf z (now (l .entry))) (k .0) ⌝ }
 {
     let most = z.messages;
     let mut m: u16 = 0;
     while m < most {
         m += 1;
-        if held_by(place_meant(z, b, m), k) {
+        let p = place_meant(z, l, m);
+        if p.is_held_by(k) {
             return true;
         }
     }
     false
 }
 
-pub fn cancel_task(z: Size, b: &mut [u8], k: u16) -> Step
-    requires { ⌜ total z ≤ length (now b) ⌝ }
-    ensures { λ res. ⌜ Makes res (now (b .exit)) (stepping z (now (b .entry)) (calls.CancelTask k)) ⌝ }
+pub fn cancel_task(z: Size, l: &mut [u8], c: TaskMeant, k: u16) -> Body
+    requires { ⌜ Runs z (now l) c ⌝ }
+    ensures { λ res. ⌜ Makes res (now (l .exit)) (stepping z (now (l .entry)) (calls.CancelTask k)) ⌝ }
 {
-    let who = running(z, b);
-    let TaskMeant::Task(_) = who else {
-        return Step::Stopped(Refusal::NobodyRuns);
+    let TaskMeant::Task(_) = c else {
+        return Body::Stopped(Refusal::NobodyRuns);
     };
-    let meant = present_task(z, b, k);
+    let meant = present_task(z, l, k);
     let TaskMeant::Task(n) = meant else {
-        return Step::Stopped(Refusal::NoSuchTask);
+        return Body::Stopped(Refusal::NoSuchTask);
     };
-    let t = task_at(z, b, n);
+    let t = task_at(z, l, n);
     if t.mptr != 0 {
-        return Step::Stopped(Refusal::TaskBusy);
+        return Body::Stopped(Refusal::TaskBusy);
     }
-    if holds_one(z, b, n) {
-        return Step::Stopped(Refusal::TaskBusy);
+    if holds_one(z, l, n) {
+        return Body::Stopped(Refusal::TaskBusy);
     }
     let s = t.stat;
     if s.has(Status::IWAT) {
-        return Step::Stopped(Refusal::TaskBusy);
+        return Body::Stopped(Refusal::TaskBusy);
     }
-    out_of_order(z, b, n);
-    put_task(z, b, n, Task::none());
-    Step::Done(0)
-}
-
-pub fn wait_for_interrupt(z: Size, b: &mut [u8]) -> Step
-    requires { ⌜ total z ≤ length (now b) ⌝ }
-    ensures { λ res. ⌜ Makes res (now (b .exit)) (stepping z (now (b .entry)) calls.WaitForInterrupt) ⌝ }
-{
-    let who = running(z, b);
-    let TaskMeant::Task(c) = who else {
-        return Step::Stopped(Refusal::NobodyRuns);
-    };
-    let t = task_at(z, b, c);
-    let s = t.stat;
-    if s.has(Status::INTQ) {
-        clear_bit(z, b, c, Status::INTQ);
-    } else {
-        set_bit(z, b, c, Status::IWAT);
+    out_of_order(z, l, n);
+    put_task(z, l, n, Task::none());
+    Body::Done {
+        value: 0,
+        stirs: true,
     }
-    Step::Done(0)
 }

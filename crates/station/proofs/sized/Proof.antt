@@ -1,5 +1,6 @@
 -- `station::sized` meets its contract.
 use mathlib.Core.Path.{refl}
+use borrow.Author.Needs.{needs}
 use Rattle.station.proofs.sized.Statement.{statement}
 use Rattle.station.proofs.sized.Tie as tie
 

@@ -1,6 +1,6 @@
 -- `station::asked::call_of_kind` meets its contract.
-use native.Mathlib.Omega.{arith}
 use Rattle.station.proofs.NoCall.{no-call, above}
+use borrow.Author.Needs.{needs}
 use Rattle.station.proofs.asked.call_of_kind.Statement.{statement}
 use Rattle.station.proofs.asked.call_of_kind.Tie as tie
 
@@ -62,7 +62,7 @@ returns-19 : tie.Need-returns-19
 returns-19 c = rw (c .match .keys19)
 
 returns-20 : tie.Need-returns-20
-returns-20 c = no-call (c .before .args .kind) _ _ _ _ _ (λ n. above (c .before .args .kind) 19 (above (c .before .args .kind) 18 (above (c .before .args .kind) 17 (above (c .before .args .kind) 16 (above (c .before .args .kind) 15 (above (c .before .args .kind) 14 (above (c .before .args .kind) 13 (above (c .before .args .kind) 12 (above (c .before .args .kind) 11 (above (c .before .args .kind) 10 (above (c .before .args .kind) 9 (above (c .before .args .kind) 8 (above (c .before .args .kind) 7 (above (c .before .args .kind) 6 (above (c .before .args .kind) 5 (above (c .before .args .kind) 4 (above (c .before .args .kind) 3 (above (c .before .args .kind) 2 (above (c .before .args .kind) 1 (above (c .before .args .kind) 0 (omega arith) n) (c .match .rest .0 .0 .0 .0 .0 .0 .0 .0 .0 .0 .0 .0 .0 .0 .0 .0 .0 .0 .1)) (c .match .rest .0 .0 .0 .0 .0 .0 .0 .0 .0 .0 .0 .0 .0 .0 .0 .0 .0 .1)) (c .match .rest .0 .0 .0 .0 .0 .0 .0 .0 .0 .0 .0 .0 .0 .0 .0 .0 .1)) (c .match .rest .0 .0 .0 .0 .0 .0 .0 .0 .0 .0 .0 .0 .0 .0 .0 .1)) (c .match .rest .0 .0 .0 .0 .0 .0 .0 .0 .0 .0 .0 .0 .0 .0 .1)) (c .match .rest .0 .0 .0 .0 .0 .0 .0 .0 .0 .0 .0 .0 .0 .1)) (c .match .rest .0 .0 .0 .0 .0 .0 .0 .0 .0 .0 .0 .0 .1)) (c .match .rest .0 .0 .0 .0 .0 .0 .0 .0 .0 .0 .0 .1)) (c .match .rest .0 .0 .0 .0 .0 .0 .0 .0 .0 .0 .1)) (c .match .rest .0 .0 .0 .0 .0 .0 .0 .0 .0 .1)) (c .match .rest .0 .0 .0 .0 .0 .0 .0 .0 .1)) (c .match .rest .0 .0 .0 .0 .0 .0 .0 .1)) (c .match .rest .0 .0 .0 .0 .0 .0 .1)) (c .match .rest .0 .0 .0 .0 .0 .1)) (c .match .rest .0 .0 .0 .0 .1)) (c .match .rest .0 .0 .0 .1)) (c .match .rest .0 .0 .1)) (c .match .rest .0 .1)) (c .match .rest .1))
+returns-20 c = no-call (c .before .args .kind) _ _ _ _ _ (above _ 19 (c .before .args .kind) (c .match .rest))
 
 pub call-of-kind-spec : {M : Type 1} → statement M
 call-of-kind-spec =

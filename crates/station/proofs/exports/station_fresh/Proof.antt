@@ -8,7 +8,9 @@ use Rattle.station.proofs.exports.station_fresh.Statement.{statement}
 use Rattle.station.proofs.exports.station_fresh.Tie as tie
 
 returns : tie.Need-returns
-returns c = (c .pack .ensures ∙ ap (λ (a : Answer). packed (handed a)) (c .before .before .before .fresh .ensures .answers), c .before .before .before .fresh .ensures .leaves)
+returns c =
+    let s = c .before .before .before in
+    (c .pack .ensures ∙ ap (λ (a : Answer). packed (handed a)) (s .fresh .ensures .answers), s .fresh .ensures .leaves)
 
 pub station-fresh-spec : {M : Type 1} → statement M
 station-fresh-spec = tie.close (tie.spec (λ c κs. search needs) (λ c κs. search needs) (λ c. search needs) returns)

@@ -1,4 +1,0 @@
-pub mod Placing
-pub mod Sending
-pub mod Receiving
-pub mod Claiming
