@@ -5,7 +5,7 @@ use mathlib.Core.Bool.{Bool, true, false, true≢false}
 use mathlib.Core.List.{List}
 use Prim.Native.Nat.{ℕ}
 use borrow.Author.Tests.{ne-eqb}
-use Rattle.links.specs.Queue.{firstOf, restOf, firstWith}
+use Rattle.links.specs.Queue.{walk, firstOf, restOf, firstWith}
 use Rattle.board.specs.declared.numbers.Size.{Size}
 use Rattle.board.specs.declared.status.Status.{Status}
 use Rattle.board.specs.declared.records.Task.{Task}
@@ -20,7 +20,15 @@ use Rattle.kept.specs.Touched.{changed}
 use Rattle.kept.specs.Claims.{Sizes}
 use Rattle.kept.proofs.Reading.{task-put, task-alike, order-walked}
 use Rattle.kept.proofs.Taking.{take-stat, due-queued, deliver-settled}
+use Rattle.kept.proofs.Framed.{framed-take}
 use Rattle.linked.proofs.Running.{present-numbered, runner-says}
+
+-- ---- a message taken leaves who runs
+pub take-runs : (z : Size) (b : Board) (c : ℕ) → running z (takeFirst z b c) ≡ running z b
+take-runs z b c =
+    let f = framed-take z b c in
+    ap₂ firstWith (fun-ext (λ k. ap isReady (take-stat z b c k)))
+    (ap₂ (λ (next : ℕ → ℕ) (x : ℕ). walk next (z .messages) x) (fun-ext (f .links refl)) (f .first refl))
 
 -- ---- a delivery
 module _ (z : Size) (b : Board) (order : List ℕ) (queues : ℕ → List ℕ) (sizes : Sizes z) (settled : Settled z b order queues)

@@ -37,6 +37,7 @@ use Rattle.kept.proofs.Holding.{unqueued-out, held-numbered}
 use Rattle.kept.proofs.Waiting.{task-numbered}
 use Rattle.kept.proofs.Placing.{sender-passed}
 use Rattle.kept.proofs.Taking.{cancel-message-row}
+use Rattle.kept.proofs.Dispatching.{take-runs}
 use Rattle.stores.specs.Changes as changes
 use Rattle.stores.specs.Moves as moves
 use Rattle.stores.specs.Effects as effects
@@ -55,11 +56,8 @@ pub record Body (z : Size) (c : ℕ) (d : Stored) (p : Undispatched) : Type 0 wh
 
 -- ---- a row
 -- who is ready may have changed, and who runs is looked for
-stirring : {z : Size} {c v w : ℕ} {l : List ℕ} {b : Board} → v ≡ w → Comes z l b → Body z c (leaves v l) (undispatched w b)
-stirring {z = z} e h = record { value = e; bytes = h; runs = ap (running z) (h .1) }
-
 stirs : {z : Size} {c v : ℕ} {l : List ℕ} {b : Board} → Comes z l b → Body z c (leaves v l) (undispatched v b)
-stirs h = stirring refl h
+stirs {z = z} h = record { value = refl; bytes = h; runs = ap (running z) (h .1) }
 
 -- the same task runs
 resting : {z : Size} {c v w : ℕ} {l : List ℕ} {b : Board} → v ≡ w → Comes z l b → c ≡ running z b → Body z c (rests v l) (undispatched w b)
@@ -156,7 +154,8 @@ module _ (z : Size) (l : List ℕ) (e : length l ≡ total z) (a : Sizes z) (q :
   body-comes (ForwardAndWait m r) g = stirs (and-waits _ _ (passed m r g))
   body-comes (Return m) g = stirs (passed m (message b m .sptr) g)
   body-comes (ReturnAndWait m) g = stirs (and-waits _ _ (passed m (message b m .sptr) g))
-  body-comes Receive g = stirring (first-read z l e a q queues s c (there g)) (comes-taken z l e a q queues s c (there g))
+  body-comes Receive g =
+      resting (first-read z l e a q queues s c (there g)) (comes-taken z l e a q queues s c (there g)) (sym (take-runs z b c))
   body-comes ReceiveAndWait g = stirs (comes-waits z l e c)
   body-comes (CancelMessage m r) g = stirs (taken-back m r g)
   body-comes WaitForInterrupt g = stirs (comes-wait z l e c)

@@ -104,7 +104,7 @@ module _ (z : Size) (l : List ℕ) {x : TaskMeant} (ex : x ≡ taskMeant z (runn
 
   -- receive: first is what it took, n its number
   pub receives : {first : MessageMeant} {n : ℕ} {d : List ℕ} → first ≡ messageMeant z (task b (c .0) .mptr)
-      → n ≡ numberOfMessage first → d ≡ takeFirst z l (c .0) → Makes (Done n true) d (stepping z l Receive)
+      → n ≡ numberOfMessage first → d ≡ takeFirst z l (c .0) → Makes (Done n false) d (stepping z l Receive)
   receives ef en ed =
       let g = one-goes z l Receive [] refl ex runs in
       let r : ℕ = running z b in

@@ -54,7 +54,7 @@ pub fn receive(z: Size, l: &mut [u8], c: TaskMeant) -> Body
     let first = take_first(z, l, k);
     Body::Done {
         value: first.number(),
-        stirs: true,
+        stirs: false,
     }
 }
 
