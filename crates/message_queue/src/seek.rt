@@ -49,10 +49,7 @@ pub fn spot_for_message(z: Size, l: &[u8], r: TaskNo, fifo: bool, p: u8) -> Mess
             };
         };
         if goes_before(fifo, p, number(prio_of(z, l, m))) {
-            return MessageSpot {
-                prev: prev,
-                cur: cur,
-            };
+            break;
         }
         prev = cur;
         cur = next_message(z, l, m);
@@ -81,10 +78,7 @@ pub fn spot_of_message(z: Size, l: &[u8], r: TaskNo, x: MsgNo) -> MessageSpot
             };
         };
         if m.number() == x.number() {
-            return MessageSpot {
-                prev: prev,
-                cur: cur,
-            };
+            break;
         }
         prev = cur;
         cur = next_message(z, l, m);

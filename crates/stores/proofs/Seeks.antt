@@ -1,5 +1,7 @@
--- The turns of a loop that seeks a spot, in plain variables, for tasks and messages alike.
---   Kind number meant bound one no     a kind of numbers: what a word means, its number, a word that the board has not led to 0, one that is meant
+-- The turns of a loop that seeks a spot, in plain variables, for tasks and messages alike. A kind of numbers is five functions: meant w is
+-- what a word means, number y the number of what is meant, bound w the word, or 0 where the board has no such number, one k that k is
+-- meant, and no k the number of k.
+--   Kind number meant bound one no     what is asked of a kind
 --   Seeks number meant goes next ..    the walk from where the loop stands is the walk from the start, with n turns from x
 --   Found meant prev cur s             the loop stands at the spot s
 -- Assumes nothing.

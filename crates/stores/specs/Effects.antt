@@ -1,7 +1,7 @@
 -- The effects of document 01's calls as stores on the bytes l, in the paper's order and by its names. Contracts of code cite this file; that
 -- they come to the effects of paper on a board that passes is proved (stored), so no reader needs to believe it.
 -- Assumes nothing.
-use mathlib.Core.Bool.{Bool, cond, _&&_}
+use mathlib.Core.Bool.{cond, _&&_}
 use mathlib.Core.List.{List}
 use Prim.Native.Nat.{ℕ}
 use lib.Dec.{eqb}

@@ -25,7 +25,7 @@ use Rattle.board.specs.declared.records.Message.{Message}
 use Rattle.board.specs.Numbers.{taskMeant, messageMeant, onBoard}
 use Rattle.board.specs.Status.{number, fifo, withFifo}
 use Rattle.board.specs.Records.{taskWithLink, withLink, withPrio}
-use Rattle.board.specs.Board.{Board, boardOf, task, message}
+use Rattle.board.specs.Board.{Board, boardOf, task}
 use Rattle.board.specs.Writes.{putFirst, putTask, putMessage}
 use Rattle.paper.specs.Rules.{nextTask, nextMessage, taskNumber, messageNumber}
 use Rattle.stores.specs.Changes.{withMptr, linkTask, linkMessage}

@@ -29,17 +29,11 @@ pub fn spot_for_task(z: Size, l: &[u8], p: u8) -> TaskSpot
     let mut cur = first_task(z, l);
     while 0 < left {
         let TaskMeant::Task(k) = cur else {
-            return TaskSpot {
-                prev: prev,
-                cur: cur,
-            };
+            break;
         };
         let t = task_at(z, l, k);
         if p < number(t.prio) {
-            return TaskSpot {
-                prev: prev,
-                cur: cur,
-            };
+            break;
         }
         prev = cur;
         cur = t.next(z);
@@ -61,16 +55,10 @@ pub fn spot_of_task(z: Size, l: &[u8], x: TaskNo) -> TaskSpot
     let mut cur = first_task(z, l);
     while 0 < left {
         let TaskMeant::Task(k) = cur else {
-            return TaskSpot {
-                prev: prev,
-                cur: cur,
-            };
+            break;
         };
         if k.number() == x.number() {
-            return TaskSpot {
-                prev: prev,
-                cur: cur,
-            };
+            break;
         }
         let t = task_at(z, l, k);
         prev = cur;

@@ -29,22 +29,6 @@ loop-holds c = record {
   here = let a = c .before .before .args in real (task-kind (a .z)) _ (boardOf (a .z) (now (a .l)) .first) (c .first-task .ensures) .1;
 }
 
-returns : tie.Need-returns Inv-loop μ-loop
-returns c =
-    let s = c .before .before .before in
-    let a = s .before .before .before .args in
-    task-spot (a .z) (now (a .l)) _ _ _ _ (s .before .first-task .ensures)
-    (ended (s .loop .inv) (ap numberOfTask (c .enum-told .given .1)))
-
-returns-2 : tie.Need-returns-2 Inv-loop μ-loop
-returns-2 c =
-    let m = c .before .before .before .before in
-    let s = m .before .before .before in
-    let a = s .before .before .before .args in
-    task-spot (a .z) (now (a .l)) _ _ _ _ (s .before .first-task .ensures)
-    (stopped (task-kind (a .z)) (s .loop .inv) _ (m .cur .given .1)
-    (is-it (c .before .before .number .ensures) (c .before .number2 .ensures) (c .if1 .taken)))
-
 loop-less : tie.Need-loop-less Inv-loop μ-loop
 loop-less c = omega arith
 
@@ -59,16 +43,32 @@ loop-again c =
     (not-it (t .before .before .number .ensures) (t .before .number2 .ensures) (t .if1 .left))
     (c .next .ensures ∙ ap (λ (t : Task). taskMeant (a .z) (t .link)) (c .before .task-at .ensures)) refl
 
-returns-3 : tie.Need-returns-3 Inv-loop μ-loop
-returns-3 c =
+returns : tie.Need-returns Inv-loop μ-loop
+returns c =
     let s = c .before in
     let a = s .before .before .before .args in
     task-spot (a .z) (now (a .l)) _ _ _ _ (s .before .first-task .ensures)
     (spent (s .loop .inv) (c .loop-test .left))
 
+returns-2 : tie.Need-returns-2 Inv-loop μ-loop
+returns-2 c =
+    let s = c .before .before .before in
+    let a = s .before .before .before .args in
+    task-spot (a .z) (now (a .l)) _ _ _ _ (s .before .first-task .ensures)
+    (ended (s .loop .inv) (ap numberOfTask (c .enum-told .given .1)))
+
+returns-3 : tie.Need-returns-3 Inv-loop μ-loop
+returns-3 c =
+    let m = c .before .before .before .before in
+    let s = m .before .before .before in
+    let a = s .before .before .before .args in
+    task-spot (a .z) (now (a .l)) _ _ _ _ (s .before .first-task .ensures)
+    (stopped (task-kind (a .z)) (s .loop .inv) _ (m .cur .given .1)
+    (is-it (c .before .before .number .ensures) (c .before .number2 .ensures) (c .if1 .taken)))
+
 pub spot-of-task-spec : {M : Type 1} → statement M
 spot-of-task-spec =
     tie.close
-    (tie.spec Inv-loop μ-loop (λ c κs. search needs) loop-holds (λ c. search needs) (λ c. search needs) returns
-    (λ c κs. search needs) (λ c κs. search needs) returns-2 (λ c κs. search needs) (λ c κs. search needs)
-    (λ c. search needs) loop-less loop-again returns-3)
+    (tie.spec Inv-loop μ-loop (λ c κs. search needs) loop-holds (λ c. search needs) (λ c. search needs)
+    (λ c κs. search needs) (λ c κs. search needs) (λ c κs. search needs) (λ c κs. search needs) (λ c. search needs)
+    loop-less loop-again returns returns-2 returns-3)
