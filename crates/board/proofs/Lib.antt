@@ -5,6 +5,4 @@ pub mod Pieces
 pub mod Codec
 pub mod Written
 pub mod Meant
-mod Access
-mod ByWord
-mod Fields
+mod Decoding

@@ -91,20 +91,6 @@ impl Task {
         self.mptr = m.number();
         self
     }
-
-    pub fn with_link_word(mut self, w: u16) -> Task
-        ensures { λ res. ⌜ res ≡ taskWithLink self w ⌝ }
-    {
-        self.link = w;
-        self
-    }
-
-    pub fn with_mptr_word(mut self, w: u16) -> Task
-        ensures { λ res. ⌜ res ≡ taskWithMptr self w ⌝ }
-    {
-        self.mptr = w;
-        self
-    }
 }
 
 impl Message {
@@ -153,20 +139,6 @@ impl Message {
         ensures { λ res. ⌜ res ≡ withRptr self (r .0) ⌝ }
     {
         self.rptr = r.number();
-        self
-    }
-
-    pub fn with_link_word(mut self, w: u16) -> Message
-        ensures { λ res. ⌜ res ≡ withLink self w ⌝ }
-    {
-        self.link = w;
-        self
-    }
-
-    pub fn with_rptr_word(mut self, w: u16) -> Message
-        ensures { λ res. ⌜ res ≡ withRptr self w ⌝ }
-    {
-        self.rptr = w;
         self
     }
 

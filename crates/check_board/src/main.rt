@@ -5,8 +5,8 @@ use telling::finding::judged;
 use telling::finding::tell_running;
 use telling::print::text;
 
-fn tell(b: &[u8]) {
-    let found = judged(b);
+fn tell(l: &[u8]) {
+    let found = judged(l);
     let Finding::Passes(k) = found else {
         return;
     };

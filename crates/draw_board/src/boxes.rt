@@ -5,37 +5,36 @@ ghost use Rattle.board.specs.Board.{total};
 ghost use Prim.Native.Nat.{_≤_};
 use crate::rows::BESIDE;
 use crate::rows::ROW;
-use board::bytes::message_at;
 use board::numbers::MessageMeant;
-use board::numbers::MsgNo;
 use board::numbers::Size;
 use board::numbers::TaskNo;
 use board::priority::fifo;
 use board::priority::number;
 use board::records::Message;
-use board::words::message_meant;
-use board::words::place_meant;
+use lent::by_word::message_meant;
+use lent::by_word::place_meant;
+use lent::bytes::message_at;
 use telling::print::decimal;
 use telling::print::text;
 
 // What a person sees who points at the box.
-fn draw_details(m: u16, r: Message) {
+fn draw_details(m: u16, u: Message) {
     text(b"<title>message ");
     decimal(m as u64);
     text(b", priority ");
-    decimal(number(r.prio) as u64);
-    if fifo(r.prio) {
+    decimal(number(u.prio) as u64);
+    if fifo(u.prio) {
         text(b", FIFO");
     } else {
         text(b", LIFO");
     }
-    if r.sptr != 0 {
+    if u.sptr != 0 {
         text(b", from task ");
-        decimal(r.sptr as u64);
+        decimal(u.sptr as u64);
     }
-    if r.rptr != 0 {
+    if u.rptr != 0 {
         text(b", to task ");
-        decimal(r.rptr as u64);
+        decimal(u.rptr as u64);
     }
     text(b"</title>");
 }
@@ -52,20 +51,20 @@ fn start_box(class: &[u8], n: u32, y: u32) {
 }
 
 // LIFO has a broken line.
-fn start_held(r: Message, n: u32, y: u32) {
-    if fifo(r.prio) {
+fn start_held(u: Message, n: u32, y: u32) {
+    if fifo(u.prio) {
         start_box(b"held", n, y);
     } else {
         start_box(b"held lifo", n, y);
     }
 }
 
-fn draw_box(m: u16, r: Message) {
-    draw_details(m, r);
+fn draw_box(m: u16, u: Message) {
+    draw_details(m, u);
     text(b"<rect width='70' height='30' rx='5'/><text class='no' x='8' y='20'>");
     decimal(m as u64);
     text(b"</text><text class='pr' x='63' y='20'>p");
-    decimal(number(r.prio) as u64);
+    decimal(number(u.prio) as u64);
     text(b"</text></g>\n");
 }
 
@@ -83,21 +82,20 @@ fn draw_arrow(n: u32) {
 }
 
 // The queue in its order. It has no more than the 128 blocks of the board.
-pub(crate) fn draw_queue(b: &[u8], first: u16)
-    requires { ⌜ total small ≤ length (now b) ⌝ }
+pub(crate) fn draw_queue(l: &[u8], first: MessageMeant)
+    requires { ⌜ total small ≤ length (now l) ⌝ }
 {
-    let mut link = first;
+    let mut next = first;
     let mut n: u32 = 0;
     while n < 128 {
-        let meant = MsgNo::meant(Size::SMALL, link);
-        let MessageMeant::Message(m) = meant else {
+        let MessageMeant::Message(m) = next else {
             return;
         };
-        let r = message_at(Size::SMALL, b, m);
+        let u = message_at(Size::SMALL, l, m);
         start_box(b"queued", n, 0);
         draw_arrow(n);
-        draw_box(m.number(), r);
-        link = r.link;
+        draw_box(m.number(), u);
+        next = u.next(Size::SMALL);
         n += 1;
     }
 }
@@ -109,8 +107,8 @@ fn draw_label(y: u32) {
 }
 
 // What the task holds, below so many rows of its queue.
-pub(crate) fn draw_held(b: &[u8], k: TaskNo, below: u32)
-    requires { ⌜ total small ≤ length (now b) ⌝ }
+pub(crate) fn draw_held(l: &[u8], k: TaskNo, below: u32)
+    requires { ⌜ total small ≤ length (now l) ⌝ }
     requires { ⌜ below ≤ 7300 ⌝ }
 {
     let y = ROW * below;
@@ -118,14 +116,14 @@ pub(crate) fn draw_held(b: &[u8], k: TaskNo, below: u32)
     let mut n: u32 = 0;
     while m < 128 {
         m += 1;
-        let p = place_meant(Size::SMALL, b, m);
+        let p = place_meant(Size::SMALL, l, m);
         if p.is_held_by(k) {
             if n == 0 {
                 draw_label(y);
             }
-            let r = message_meant(Size::SMALL, b, m);
-            start_held(r, n, y);
-            draw_box(m, r);
+            let u = message_meant(Size::SMALL, l, m);
+            start_held(u, n, y);
+            draw_box(m, u);
             n += 1;
         }
     }

@@ -8,13 +8,12 @@ ghost use Prim.Native.Nat.{_≤_};
 ghost use lib.ListN.{length};
 ghost use Rattle.board.specs.Numbers.{small};
 ghost use Rattle.board.specs.Board.{total};
-use board::bytes::first_task;
-use board::bytes::task_at;
 use board::numbers::Size;
 use board::numbers::TaskMeant;
-use board::numbers::TaskNo;
 use boxes::draw_held;
 use boxes::draw_queue;
+use lent::bytes::first_task;
+use lent::bytes::task_at;
 use libc::STDIN_FILENO;
 use page::draw_foot;
 use page::draw_head;
@@ -29,43 +28,42 @@ use telling::finding::Finding;
 use telling::finding::judged;
 
 // The tasks in queue order, each below the one before. A board that passes has no more than 32.
-fn draw_tasks(b: &[u8], runs: u16)
-    requires { ⌜ total small ≤ length (now b) ⌝ }
+fn draw_tasks(l: &[u8], runs: u16)
+    requires { ⌜ total small ≤ length (now l) ⌝ }
 {
-    let mut link = first_task(b) as u16;
+    let mut next = first_task(Size::SMALL, l);
     let mut left: u32 = 32;
     let mut y = TOP;
     while 0 < left {
-        let meant = TaskNo::meant(Size::SMALL, link);
-        let TaskMeant::Task(k) = meant else {
+        let TaskMeant::Task(k) = next else {
             return;
         };
-        let t = task_at(Size::SMALL, b, k);
-        let high = row_height(b, k);
+        let t = task_at(Size::SMALL, l, k);
+        let high = row_height(l, k);
         draw_row(y, high - 6);
-        draw_task(k, t, link == runs);
-        draw_queue(b, t.mptr);
-        draw_held(b, k, queue_rows(b, k));
+        draw_task(k, t, k.number() == runs);
+        draw_queue(l, t.first(Size::SMALL));
+        draw_held(l, k, queue_rows(l, k));
         end_row();
         y += high;
-        link = t.link;
+        next = t.next(Size::SMALL);
         left -= 1;
     }
 }
 
-fn draw(b: &[u8]) {
-    let found = judged(b);
+fn draw(l: &[u8]) {
+    let found = judged(l);
     let Finding::Passes(runs) = found else {
         return;
     };
     // what passes is whole: the readers want to see it
-    if b.len() < 1476 {
+    if l.len() < 1476 {
         return;
     }
-    let y = foot(b);
-    draw_head(b, runs, y);
-    draw_tasks(b, runs);
-    draw_foot(b, y);
+    let y = foot(l);
+    draw_head(l, runs, y);
+    draw_tasks(l, runs);
+    draw_foot(l, y);
 }
 
 fn main() {

@@ -47,8 +47,8 @@ fn draw_looks_of_messages() {
 }
 
 // The page reaches 40 below the last row.
-pub(crate) fn draw_head(b: &[u8], runs: u16, foot: u32)
-    requires { ⌜ total small ≤ length (now b) ⌝ }
+pub(crate) fn draw_head(l: &[u8], runs: u16, foot: u32)
+    requires { ⌜ total small ≤ length (now l) ⌝ }
 {
     let high = foot as u64 + 40;
     text(b"<svg xmlns='http://www.w3.org/2000/svg' width='1216' height='");
@@ -62,7 +62,7 @@ pub(crate) fn draw_head(b: &[u8], runs: u16, foot: u32)
         b"<rect width='100%' height='100%' fill='#fff'/>\n<text class='head' x='24' y='40'>Station board</text>\n",
     );
     text(b"<text class='soft' x='24' y='62'>");
-    tell_installed(b);
+    tell_installed(l);
     text(b"; ");
     tell_running(runs);
     text(b"</text>\n");
@@ -154,13 +154,13 @@ pub(crate) fn draw_task(k: TaskNo, t: Task, runs: bool) {
 }
 
 // The totals, and what the looks of the boxes mean.
-pub(crate) fn draw_foot(b: &[u8], y: u32)
-    requires { ⌜ total small ≤ length (now b) ⌝ }
+pub(crate) fn draw_foot(l: &[u8], y: u32)
+    requires { ⌜ total small ≤ length (now l) ⌝ }
 {
     text(b"<g transform='translate(24,");
     decimal(y as u64 + 4);
     text(b")'><text class='soft' y='14'>");
-    tell_blocks(b);
+    tell_blocks(l);
     text(
         b"</text><g class='queued' transform='translate(380,2)'><rect width='24' height='14' rx='3'/></g>",
     );

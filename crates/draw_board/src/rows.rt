@@ -3,12 +3,12 @@ ghost use lib.ListN.{length};
 ghost use Rattle.board.specs.Numbers.{small};
 ghost use Rattle.board.specs.Board.{total};
 ghost use Prim.Native.Nat.{_<_, _≤_};
-use board::bytes::first_task;
-use board::bytes::task_at;
 use board::numbers::Size;
 use board::numbers::TaskMeant;
 use board::numbers::TaskNo;
 use board::places::Place;
+use lent::bytes::first_task;
+use lent::bytes::task_at;
 use telling::totals::blocks;
 
 // Where the first task is drawn.
@@ -26,29 +26,29 @@ fn rows_of(n: u32) -> u32
     (n + BESIDE - 1) / BESIDE
 }
 
-pub(crate) fn queue_rows(b: &[u8], k: TaskNo) -> u32
-    requires { ⌜ total small ≤ length (now b) ⌝ }
+pub(crate) fn queue_rows(l: &[u8], k: TaskNo) -> u32
+    requires { ⌜ total small ≤ length (now l) ⌝ }
     ensures { λ res. ⌜ res ≤ 7300 ⌝ }
 {
     let queue = Place::QueuedAt(k);
     let at = queue.byte();
-    rows_of(blocks(b, at, at) as u32)
+    rows_of(blocks(l, at, at) as u32)
 }
 
-fn held_rows(b: &[u8], k: TaskNo) -> u32
-    requires { ⌜ total small ≤ length (now b) ⌝ }
+fn held_rows(l: &[u8], k: TaskNo) -> u32
+    requires { ⌜ total small ≤ length (now l) ⌝ }
     ensures { λ res. ⌜ res ≤ 7300 ⌝ }
 {
     let hands = Place::HeldBy(k);
     let at = hands.byte();
-    rows_of(blocks(b, at, at) as u32)
+    rows_of(blocks(l, at, at) as u32)
 }
 
-pub(crate) fn row_height(b: &[u8], k: TaskNo) -> u32
-    requires { ⌜ total small ≤ length (now b) ⌝ }
+pub(crate) fn row_height(l: &[u8], k: TaskNo) -> u32
+    requires { ⌜ total small ≤ length (now l) ⌝ }
     ensures { λ res. ⌜ (66 ≤ res) × (res ≤ 700000) ⌝ }
 {
-    let n = queue_rows(b, k) + held_rows(b, k);
+    let n = queue_rows(l, k) + held_rows(l, k);
     if n < 2 {
         return 66;
     }
@@ -56,21 +56,20 @@ pub(crate) fn row_height(b: &[u8], k: TaskNo) -> u32
 }
 
 // Where the last row ends. A board that passes has no more than 32 tasks.
-pub(crate) fn foot(b: &[u8]) -> u32
-    requires { ⌜ total small ≤ length (now b) ⌝ }
+pub(crate) fn foot(l: &[u8]) -> u32
+    requires { ⌜ total small ≤ length (now l) ⌝ }
     ensures { λ res. ⌜ res ≤ 22400086 ⌝ }
 {
-    let mut link = first_task(b) as u16;
+    let mut next = first_task(Size::SMALL, l);
     let mut left: u32 = 32;
     let mut y = TOP;
     while 0 < left {
-        let meant = TaskNo::meant(Size::SMALL, link);
-        let TaskMeant::Task(k) = meant else {
+        let TaskMeant::Task(k) = next else {
             return y;
         };
-        y += row_height(b, k);
-        let t = task_at(Size::SMALL, b, k);
-        link = t.link;
+        y += row_height(l, k);
+        let t = task_at(Size::SMALL, l, k);
+        next = t.next(Size::SMALL);
         left -= 1;
     }
     y

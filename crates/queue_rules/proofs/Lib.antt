@@ -1,7 +1,7 @@
 pub mod Visits
 pub mod Counting
 pub mod Lists
-mod Turns
+pub mod Turns
 mod OrderTurns
 mod QueueTurns
 mod Tests

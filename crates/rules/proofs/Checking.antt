@@ -4,8 +4,6 @@ use mathlib.Core.Path.{_≡_, refl, sym, ap, _∙_}
 use mathlib.Core.Bool.{Bool, true, false, cond, not, _&&_, and-false}
 use mathlib.Core.List.{List}
 use Prim.Native.Nat.{ℕ}
-use native.Mathlib.Omega.{arith}
-use lib.Dec.{eqb}
 use Rattle.links.specs.Queue.{each}
 use Rattle.links.proofs.Bools.{and-true}
 use Rattle.board.specs.declared.numbers.Size.{Size}
@@ -18,11 +16,10 @@ use Rattle.board.specs.Records.{noTask}
 use Rattle.board.specs.Board.{Board, boardOf, task}
 use Rattle.board.proofs.Pieces.{nth-outside}
 use Rattle.board.proofs.Codec.{length-tasks}
-use Rattle.paper.specs.Rules.{running, rule1, rule2At, rule3, rule4At, rule5At, rule6At, rule7, passes}
+use Rattle.paper.specs.Rules.{running, rule1, rule2At, rule3, rule4At, rule5At, rule6At, rule7}
 use Rattle.queue_rules.specs.declared.tasks.Order.{Order}
 use Rattle.queue_rules.specs.declared.tasks.Order.the-variants as order
 use Rattle.queue_rules.specs.Order.{listed}
-use Rattle.rules.specs.declared.Checked.{Checked}
 use Rattle.rules.specs.declared.Checked.the-variants.{Broken, Passes}
 use Rattle.rules.specs.Checked.{notDue, checkedOf}
 
@@ -101,8 +98,11 @@ module _ (z : Size) (l : List ℕ) where
   pub breaks2 : r2 ≡ false → Broken ≡ checkedOf z b
   breaks2 e = after3 (first to2 (rule3 z b) (second (rule1 b) r2 e))
 
+  pub out-of-order : order.Broken ≡ listed z b → rule3 z b ≡ false
+  out-of-order e = not-back (rule3 z b) true (sym (answer-broken (rule3 z b) _) ∙ ap isBroken (sym e))
+
   pub breaks3 : order.Broken ≡ listed z b → Broken ≡ checkedOf z b
-  breaks3 e = after3 (second to2 (rule3 z b) (not-back (rule3 z b) true (sym (answer-broken (rule3 z b) _) ∙ ap isBroken (sym e))))
+  breaks3 e = after3 (second to2 (rule3 z b) (out-of-order e))
 
   pub breaks4 : r4 ≡ false → Broken ≡ checkedOf z b
   breaks4 e = broken (first to5 r6 (first to4 r5 (second to3 r4 e)))
@@ -122,13 +122,13 @@ module _ (z : Size) (l : List ℕ) where
       go false e = refl
 
   module _ (c : TaskMeant) (e : order.Listed c ≡ listed z b) where
-    in-order : rule3 z b ≡ true
+    pub in-order : rule3 z b ≡ true
     in-order = not-back (rule3 z b) false (sym (answer-broken (rule3 z b) _) ∙ ap isBroken (sym e))
 
     runs : c ≡ taskMeant z (running z b)
     runs = ap (runnerOr (taskMeant z (running z b))) e ∙ answer-runner (rule3 z b) (taskMeant z (running z b))
 
-    due : notDue b c ≡ rule7 z b
+    pub due : notDue b c ≡ rule7 z b
     due =
         ap (notDue b) runs
         ∙ ap (λ (t : Task). not (has (t .stat) MHBS)) (task-met (running z b))
@@ -146,15 +146,3 @@ module _ (z : Size) (l : List ℕ) where
         let a5 = and-true to4 r5 (and-true to3 r4 a3 h4) h5 in
         let a7 = and-true to6 (rule7 z b) (and-true to5 r6 a5 h6) (sym due ∙ h7) in
         ap Passes runs ∙ ap (λ (t : Bool). cond t (Passes (taskMeant z (running z b))) Broken) (sym a7)
-
--- ---- the answer told as a test
-abbrev pub didPass : Checked → Bool
-didPass Broken = false
-didPass (Passes c) = true
-
-pub told-passes : (z : Size) (b : Board) → didPass (checkedOf z b) ≡ passes z b
-told-passes z b = go (passes z b)
-  where
-    go : (t : Bool) → didPass (cond t (Passes (taskMeant z (running z b))) Broken) ≡ t
-    go true = refl
-    go false = refl

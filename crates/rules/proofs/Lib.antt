@@ -1,1 +1,1 @@
-mod Checking
+pub mod Checking

@@ -1,15 +1,9 @@
 // CODE. The check of a board: does it keep R1 to R7, and who runs? Each rule is a function of the lent bytes whose answer is proved to be
 // the definition's (paper, Rules). Each record is looked at a bounded number of times, each queue walked once.
-pub mod records;
-pub mod who;
-
 ghost use mathlib.Core.Path.{_≡_};
-ghost use mathlib.Core.Bool.{_&&_};
 ghost use Prim.Native.Nat.{_≤_};
-ghost use lib.Dec.{eqb};
 ghost use lib.ListN.{length};
 ghost use Rattle.board.specs.Board.{total, boardOf};
-ghost use Rattle.paper.specs.Rules.{passes};
 ghost use Rattle.rules.specs.Checked.{checkedOf, notDue};
 use board::numbers::Size;
 use board::numbers::TaskMeant;
@@ -69,18 +63,4 @@ pub fn check_rules(z: Size, l: &[u8]) -> Checked
         return Checked::Broken;
     }
     Checked::Passes(c)
-}
-
-// True if these bytes are a board of this size, no more and no fewer, and keep R1 to R7.
-pub fn passes(z: Size, l: &[u8]) -> bool
-    ensures { λ res. ⌜ res ≡ (eqb (length (now (l .entry))) (total z) && passes z (boardOf z (now (l .entry)))) ⌝ }
-{
-    if l.len() != z.total() as usize {
-        return false;
-    }
-    let checked = check_rules(z, l);
-    match checked {
-        Checked::Broken => false,
-        Checked::Passes(_) => true,
-    }
 }

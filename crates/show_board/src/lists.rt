@@ -3,16 +3,15 @@ ghost use Prim.Native.Nat.{_≤_};
 ghost use lib.ListN.{length};
 ghost use Rattle.board.specs.Numbers.{small};
 ghost use Rattle.board.specs.Board.{total};
-use board::bytes::message_at;
 use board::numbers::MessageMeant;
-use board::numbers::MsgNo;
 use board::numbers::Size;
 use board::numbers::TaskNo;
 use board::priority::fifo;
 use board::priority::number;
 use board::records::Message;
-use board::words::message_meant;
-use board::words::place_meant;
+use lent::by_word::message_meant;
+use lent::by_word::place_meant;
+use lent::bytes::message_at;
 use telling::print::decimal_in;
 use telling::print::pad;
 use telling::print::text;
@@ -64,37 +63,37 @@ fn show_number(m: u16, prio: u8) {
     decimal_in(number(prio) as u64, 3);
 }
 
-fn show_held_one(m: u16, r: Message) -> u16 {
-    show_number(m, r.prio);
-    if fifo(r.prio) {
+fn show_held_one(m: u16, u: Message) -> u16 {
+    show_number(m, u.prio);
+    if fifo(u.prio) {
         text(b" FIFO");
     } else {
         text(b" LIFO");
     }
-    show_ends(r.sptr, r.rptr)
+    show_ends(u.sptr, u.rptr)
 }
 
 // RPTR is shown where it is not the task whose queue this is: the message was forwarded or returned.
-fn show_queued_one(m: u16, r: Message, k: TaskNo) -> u16 {
-    show_number(m, r.prio);
-    if r.rptr == k.number() {
-        return show_ends(r.sptr, 0);
+fn show_queued_one(m: u16, u: Message, k: TaskNo) -> u16 {
+    show_number(m, u.prio);
+    if u.rptr == k.number() {
+        return show_ends(u.sptr, 0);
     }
-    show_ends(r.sptr, r.rptr)
+    show_ends(u.sptr, u.rptr)
 }
 
-pub(crate) fn show_held(b: &[u8], k: TaskNo)
-    requires { ⌜ total small ≤ length (now b) ⌝ }
+pub(crate) fn show_held(l: &[u8], k: TaskNo)
+    requires { ⌜ total small ≤ length (now l) ⌝ }
 {
     let mut m: u16 = 0;
     let mut n: u16 = 0;
     let mut empty: u16 = 0;
     while m < 128 {
         m += 1;
-        let p = place_meant(Size::SMALL, b, m);
+        let p = place_meant(Size::SMALL, l, m);
         if p.is_held_by(k) {
             start(b"holds", n, empty);
-            empty = show_held_one(m, message_meant(Size::SMALL, b, m));
+            empty = show_held_one(m, message_meant(Size::SMALL, l, m));
             n += 1;
         }
     }
@@ -102,21 +101,20 @@ pub(crate) fn show_held(b: &[u8], k: TaskNo)
 }
 
 // The queue in its order. It has no more than the 128 blocks of the board.
-pub(crate) fn show_queue(b: &[u8], k: TaskNo, first: u16)
-    requires { ⌜ total small ≤ length (now b) ⌝ }
+pub(crate) fn show_queue(l: &[u8], k: TaskNo, first: MessageMeant)
+    requires { ⌜ total small ≤ length (now l) ⌝ }
 {
-    let mut link = first;
+    let mut next = first;
     let mut n: u16 = 0;
     let mut empty: u16 = 0;
     while n < 128 {
-        let meant = MsgNo::meant(Size::SMALL, link);
-        let MessageMeant::Message(m) = meant else {
+        let MessageMeant::Message(m) = next else {
             break;
         };
-        let r = message_at(Size::SMALL, b, m);
+        let u = message_at(Size::SMALL, l, m);
         start(b"queue", n, empty);
-        empty = show_queued_one(m.number(), r, k);
-        link = r.link;
+        empty = show_queued_one(m.number(), u, k);
+        next = u.next(Size::SMALL);
         n += 1;
     }
     end(n);

@@ -6,14 +6,15 @@ ghost use Prim.Native.Nat.{_≤_};
 ghost use lib.ListN.{length};
 ghost use Rattle.board.specs.Numbers.{small};
 ghost use Rattle.board.specs.Board.{total};
-use board::bytes::first_task;
-use board::bytes::task_at;
 use board::numbers::Size;
 use board::numbers::TaskMeant;
 use board::numbers::TaskNo;
 use board::priority::number;
 use board::records::Task;
 use board::status::Status;
+use lent::bytes::first_task;
+use lent::bytes::no_tasks;
+use lent::bytes::task_at;
 use libc::STDIN_FILENO;
 use lists::show_held;
 use lists::show_queue;
@@ -29,14 +30,14 @@ use telling::state::state_of;
 use telling::totals::tell_blocks;
 use telling::totals::tell_installed;
 
-fn show_totals(b: &[u8], runs: u16)
-    requires { ⌜ total small ≤ length (now b) ⌝ }
+fn show_totals(l: &[u8], runs: u16)
+    requires { ⌜ total small ≤ length (now l) ⌝ }
 {
-    tell_installed(b);
+    tell_installed(l);
     text(b"; ");
     tell_running(runs);
     text(b"\n");
-    tell_blocks(b);
+    tell_blocks(l);
     text(b"\n");
 }
 
@@ -79,38 +80,37 @@ fn show_task(k: TaskNo, t: Task, runs: bool) {
 }
 
 // The tasks in queue order. A board that passes has no more than 32.
-fn show_tasks(b: &[u8], runs: u16)
-    requires { ⌜ total small ≤ length (now b) ⌝ }
+fn show_tasks(l: &[u8], runs: u16)
+    requires { ⌜ total small ≤ length (now l) ⌝ }
 {
     text(b"\n  task  name        priority  SPTR   state\n");
-    let mut link = first_task(b) as u16;
+    let mut next = first_task(Size::SMALL, l);
     let mut left: u16 = 32;
     while 0 < left {
-        let meant = TaskNo::meant(Size::SMALL, link);
-        let TaskMeant::Task(k) = meant else {
+        let TaskMeant::Task(k) = next else {
             return;
         };
-        let t = task_at(Size::SMALL, b, k);
-        show_task(k, t, link == runs);
-        show_held(b, k);
-        show_queue(b, k, t.mptr);
-        link = t.link;
+        let t = task_at(Size::SMALL, l, k);
+        show_task(k, t, k.number() == runs);
+        show_held(l, k);
+        show_queue(l, k, t.first(Size::SMALL));
+        next = t.next(Size::SMALL);
         left -= 1;
     }
 }
 
-fn show(b: &[u8]) {
-    let found = judged(b);
+fn show(l: &[u8]) {
+    let found = judged(l);
     let Finding::Passes(runs) = found else {
         return;
     };
     // what passes is whole: the readers want to see it
-    if b.len() < 1476 {
+    if l.len() < 1476 {
         return;
     }
-    show_totals(b, runs);
-    if first_task(b) != 0 {
-        show_tasks(b, runs);
+    show_totals(l, runs);
+    if !no_tasks(l) {
+        show_tasks(l, runs);
     }
 }
 

@@ -12,13 +12,14 @@ use crate::print::text;
 use board::numbers::Size;
 use paper::answer::Answer;
 use paper::answer::Refusal;
-use rules::records::rule1;
-use rules::records::rule2;
-use rules::records::rule4;
-use rules::records::rule6;
-use rules::walks::rule3;
-use rules::walks::rule5;
-use rules::who::rule7;
+use queue_rules::messages::rule5;
+use queue_rules::tasks::Order;
+use queue_rules::tasks::rule3;
+use record_rules::rule1;
+use record_rules::rule2;
+use record_rules::rule4;
+use record_rules::rule6;
+use rules::rule7;
 use station::check;
 use station::pack::refusal_number;
 
@@ -57,29 +58,30 @@ fn tell_length(n: usize) {
 }
 
 // The first rule that the board breaks, 0 for none.
-fn broken_rule(z: Size, b: &[u8]) -> u8
-    requires { ⌜ total z ≤ length (now b) ⌝ }
-    ensures { λ res. ⌜ res ≡ brokenRule z (boardOf z (now (b .entry))) ⌝ }
+fn broken_rule(z: Size, l: &[u8]) -> u8
+    requires { ⌜ total z ≤ length (now l) ⌝ }
+    ensures { λ res. ⌜ res ≡ brokenRule z (boardOf z (now (l .entry))) ⌝ }
 {
-    if !rule1(b) {
+    if !rule1(l) {
         return 1;
     }
-    if !rule2(z, b) {
+    if !rule2(z, l) {
         return 2;
     }
-    if !rule3(z, b) {
+    let order = rule3(z, l);
+    let Order::Listed(c) = order else {
         return 3;
-    }
-    if !rule4(z, b) {
+    };
+    if !rule4(z, l) {
         return 4;
     }
-    if !rule5(z, b) {
+    if !rule5(z, l) {
         return 5;
     }
-    if !rule6(z, b) {
+    if !rule6(z, l) {
         return 6;
     }
-    if !rule7(z, b) {
+    if !rule7(z, l, c) {
         return 7;
     }
     0
@@ -99,28 +101,28 @@ fn tell_rule(rule: u8) {
 }
 
 // The check gives two refusals only: a board of the right length breaks a rule.
-fn tell_reason(b: &[u8]) {
-    if b.len() != 1476 {
-        tell_length(b.len());
+fn tell_reason(l: &[u8]) {
+    if l.len() != 1476 {
+        tell_length(l.len());
         text(b"; a board is 1,476\n");
         return;
     }
-    tell_rule(broken_rule(Size::SMALL, b));
+    tell_rule(broken_rule(Size::SMALL, l));
     text(b"\n");
 }
 
-fn tell_refusal(q: Refusal, b: &[u8]) {
+fn tell_refusal(q: Refusal, l: &[u8]) {
     text(b"refused (");
     decimal(refusal_number(q) as u64);
     text(b"): ");
-    tell_reason(b);
+    tell_reason(l);
 }
 
 // The board is checked; a refusal is told in its line.
-pub fn judged(b: &[u8]) -> Finding
-    ensures { λ res. ⌜ res ≡ findingOf (check small (now (b .entry)) .answer) ⌝ }
+pub fn judged(l: &[u8]) -> Finding
+    ensures { λ res. ⌜ res ≡ findingOf (check small (now (l .entry)) .answer) ⌝ }
 {
-    let a = check(b);
+    let a = check(l);
     match a {
         Answer::Accepted {
             value: _,
@@ -128,7 +130,7 @@ pub fn judged(b: &[u8]) -> Finding
             delivered: _,
         } => Finding::Passes(running),
         Answer::Refused(q) => {
-            tell_refusal(q, b);
+            tell_refusal(q, l);
             Finding::Refused
         }
     }

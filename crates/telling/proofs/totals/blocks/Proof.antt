@@ -5,21 +5,23 @@ use native.Mathlib.Omega.{arith}
 use denote.Ref.{now}
 use Rattle.board.specs.Numbers.{small}
 use Rattle.board.specs.Board.{boardOf}
-use Rattle.rules.specs.Walks.{counted}
-use Rattle.telling.proofs.Counts.{count-starts, count-yes, count-no, count-bound}
+use Rattle.queue_rules.specs.Walks.{counted}
+use Rattle.queue_rules.proofs.Turns.{count-starts, count-yes, count-no, count-bound}
 use Rattle.telling.specs.Totals.{within}
 use borrow.Author.Needs.{needs}
 use Rattle.telling.proofs.totals.blocks.Statement.{statement}
 use Rattle.telling.proofs.totals.blocks.Tie as tie
 
 abbrev Inv-loop : tie.InvT-loop
-Inv-loop b low high m₀ n₀ m n = (m ≤ 128) × (n ≡ counted (within (boardOf small b) low high) m)
+Inv-loop l low high m₀ n₀ m n = (m ≤ 128) × (n ≡ counted (within (boardOf small l) low high) m)
 
 abbrev μ-loop : tie.MeasureT-loop
-μ-loop b low high m₀ n₀ m n = 128 - m
+μ-loop l low high m₀ n₀ m n = 128 - m
 
 loop-holds : tie.Need-loop-holds Inv-loop μ-loop
-loop-holds c = (omega arith, count-starts (within (boardOf small (now (c .before .args .b))) (c .before .args .low) (c .before .args .high)))
+loop-holds c =
+    let a = c .before .args in
+    (omega arith, count-starts (within (boardOf small (now (a .l))) (a .low) (a .high)))
 
 add-m : tie.Need-add-m Inv-loop μ-loop
 add-m c = omega arith
@@ -40,7 +42,10 @@ loop-again-2 : tie.Need-loop-again-2 Inv-loop μ-loop
 loop-again-2 c = (omega arith, count-no _ _ _ (c .before .before .before .loop .inv .1) (sym (c .before .lies .ensures) ∙ c .if1 .left))
 
 returns : tie.Need-returns Inv-loop μ-loop
-returns c = (c .before .loop .inv .1 ∙ ap (counted (within (boardOf small (now (c .before .before .before .args .b))) (c .before .before .before .args .low) (c .before .before .before .args .high))) (omega arith), omega (arith, count-bound _ _ _ (c .before .loop .inv .1)))
+returns c =
+    let p = c .before .loop in
+    let a = c .before .before .before .args in
+    (p .inv .1 ∙ ap (counted (within (boardOf small (now (a .l))) (a .low) (a .high))) (omega arith), omega (arith, count-bound _ _ _ (p .inv .1)))
 
 pub blocks-spec : {M : Type 1} → statement M
 blocks-spec =

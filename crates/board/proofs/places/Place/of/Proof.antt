@@ -1,7 +1,7 @@
 -- `board::places::Place::of` meets its contract.
 use mathlib.Core.Path.{sym, _∙_}
 use Rattle.board.proofs.Codec.{place-free}
-use Rattle.board.proofs.Access.{placeOf-holder, placeOf-low, placeOf-none, placeOf-receiver}
+use Rattle.board.proofs.Decoding.{placeOf-holder, placeOf-low, placeOf-none, placeOf-receiver}
 use borrow.Author.Needs.{needs}
 use Rattle.board.proofs.places.Place.of.Statement.{statement}
 use Rattle.board.proofs.places.Place.of.Tie as tie
