@@ -23,4 +23,5 @@ returns-2 c =
 
 pub rule7-spec : {M : Type 1} → statement M
 rule7-spec =
-    tie.close (tie.spec (λ c. search needs) (λ c. search needs) returns (λ c κs. search needs) (λ c κs. search needs) returns-2)
+    tie.close
+    (tie.spec (λ c. search needs) (λ c. search needs) returns (λ c κs. search needs) (λ c κs. search needs) returns-2)

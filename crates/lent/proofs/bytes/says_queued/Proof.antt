@@ -42,4 +42,5 @@ returns-5 c =
 pub says-queued-spec : {M : Type 1} → statement M
 says-queued-spec =
     tie.close
-    (tie.spec (λ c κs. search needs) (λ c. search needs) (λ c. search needs) returns returns-2 returns-3 returns-4 returns-5)
+    (tie.spec (λ c κs. search needs) (λ c. search needs) (λ c. search needs) returns returns-2 returns-3 returns-4
+    returns-5)

@@ -49,4 +49,6 @@ returns-3 c =
 
 pub walk-queue-spec : {M : Type 1} → statement M
 walk-queue-spec =
-    tie.close (tie.spec (λ c κs. search needs) returns (λ c κs. search needs) (λ c. search needs) (λ c. search needs) returns-2 walk-from-requires returns-3)
+    tie.close
+    (tie.spec (λ c κs. search needs) returns (λ c κs. search needs) (λ c. search needs) (λ c. search needs) returns-2
+    walk-from-requires returns-3)

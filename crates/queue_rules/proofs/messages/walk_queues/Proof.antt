@@ -80,5 +80,6 @@ returns-2 c =
 pub walk-queues-spec : {M : Type 1} → statement M
 walk-queues-spec =
     tie.close
-    (tie.spec Inv-loop μ-loop loop-holds add-k (λ c κs. search needs) (λ c. search needs) (λ c κs. search needs) (λ c. search needs) (λ c. search needs) returns add-sum loop-less loop-again (λ c. search needs) loop-less-2 loop-again-2
-    returns-2)
+    (tie.spec Inv-loop μ-loop loop-holds add-k (λ c κs. search needs) (λ c. search needs) (λ c κs. search needs)
+    (λ c. search needs) (λ c. search needs) returns add-sum loop-less loop-again (λ c. search needs) loop-less-2
+    loop-again-2 returns-2)

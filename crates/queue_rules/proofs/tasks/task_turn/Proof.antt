@@ -77,4 +77,5 @@ returns-5 c =
 pub task-turn-spec : {M : Type 1} → statement M
 task-turn-spec =
     tie.close
-    (tie.spec (λ c κs. search needs) (λ c κs. search needs) returns (λ c κs. search needs) returns-2 returns-3 (λ c κs. search needs) (λ c. search needs) (λ c. search needs) returns-4 returns-5)
+    (tie.spec (λ c κs. search needs) (λ c κs. search needs) returns (λ c κs. search needs) returns-2 returns-3
+    (λ c κs. search needs) (λ c. search needs) (λ c. search needs) returns-4 returns-5)

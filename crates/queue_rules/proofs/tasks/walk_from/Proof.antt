@@ -119,5 +119,6 @@ returns-4 c =
 pub walk-from-spec : {M : Type 1} → statement M
 walk-from-spec =
     tie.close
-    (tie.spec Inv-loop μ-loop (λ c. search needs) loop-holds (λ c κs. search needs) (λ c κs. search needs) walk-on-requires (λ c κs. search needs) returns add-seen (λ c κs. search needs) (λ c. search needs) loop-less loop-again (λ c. search needs) (λ c κs. search needs) returns-2 (λ c. search needs)
-    returns-3 returns-4)
+    (tie.spec Inv-loop μ-loop (λ c. search needs) loop-holds (λ c κs. search needs) (λ c κs. search needs)
+    walk-on-requires (λ c κs. search needs) returns add-seen (λ c κs. search needs) (λ c. search needs) loop-less
+    loop-again (λ c. search needs) (λ c κs. search needs) returns-2 (λ c. search needs) returns-3 returns-4)

@@ -41,4 +41,5 @@ returns-3 c =
 pub walk-tasks-spec : {M : Type 1} → statement M
 walk-tasks-spec =
     tie.close
-    (tie.spec (λ c κs. search needs) returns (λ c κs. search needs) (λ c. search needs) (λ c. search needs) returns-2 walk-from-requires returns-3)
+    (tie.spec (λ c κs. search needs) returns (λ c κs. search needs) (λ c. search needs) (λ c. search needs) returns-2
+    walk-from-requires returns-3)

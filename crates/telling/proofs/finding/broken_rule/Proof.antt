@@ -9,86 +9,113 @@ use Rattle.telling.proofs.finding.broken_rule.Tie as tie
 
 returns : tie.Need-returns
 returns c =
-    let a = c .before .before .before .args in
     rw (sym (c .before .rule1 .ensures) ∙ not-true _ (c .if1 .taken))
 
 returns-2 : tie.Need-returns-2
 returns-2 c =
-    let a = c .before .before .before .before .before .args in
+    let a1 = c .before .before in
     rw (
-      sym (c .before .before .before .rule1 .ensures) ∙ not-false _ (c .before .before .if1 .left),
+      sym (a1 .before .rule1 .ensures) ∙ not-false _ (a1 .if1 .left),
       sym (c .before .rule2 .ensures) ∙ not-true _ (c .if2 .taken),
     )
 
 returns-3 : tie.Need-returns-3
 returns-3 c =
-    let a = c .before .before .before .before .before .before .before .before .args in
+    let a2 = c .before .before .before in
+    let a1 = a2 .before .before in
+    let a = a1 .before .before .before .args in
     rw (
-      sym (c .before .before .before .before .before .before .rule1 .ensures) ∙ not-false _ (c .before .before .before .before .before .if1 .left),
-      sym (c .before .before .before .before .rule2 .ensures) ∙ not-false _ (c .before .before .before .if2 .left),
+      sym (a1 .before .rule1 .ensures) ∙ not-false _ (a1 .if1 .left),
+      sym (a2 .before .rule2 .ensures) ∙ not-false _ (a2 .if2 .left),
       out-of-order (a .z) (now (a .l)) (sym (c .enum-told .given .1) ∙ c .before .before .rule3 .ensures),
     )
 
 returns-4 : tie.Need-returns-4
 returns-4 c =
-    let a = c .before .before .before .before .before .before .before .before .before .before .before .args in
+    let o = c .before .before .before in
+    let a2 = o .before .before .before in
+    let a1 = a2 .before .before in
+    let a = a1 .before .before .before .args in
     rw (
-      sym (c .before .before .before .before .before .before .before .before .before .rule1 .ensures) ∙ not-false _ (c .before .before .before .before .before .before .before .before .if1 .left),
-      sym (c .before .before .before .before .before .before .before .rule2 .ensures) ∙ not-false _ (c .before .before .before .before .before .before .if2 .left),
-      in-order (a .z) (now (a .l)) _ (sym (c .before .before .before .order .given .1) ∙ c .before .before .before .before .before .rule3 .ensures),
+      sym (a1 .before .rule1 .ensures) ∙ not-false _ (a1 .if1 .left),
+      sym (a2 .before .rule2 .ensures) ∙ not-false _ (a2 .if2 .left),
+      in-order (a .z) (now (a .l)) _ (sym (o .order .given .1) ∙ o .before .before .rule3 .ensures),
       sym (c .before .rule4 .ensures) ∙ not-true _ (c .if3 .taken),
     )
 
 returns-5 : tie.Need-returns-5
 returns-5 c =
-    let a = c .before .before .before .before .before .before .before .before .before .before .before .before .before .args in
+    let a4 = c .before .before in
+    let o = a4 .before .before .before in
+    let a2 = o .before .before .before in
+    let a1 = a2 .before .before in
+    let a = a1 .before .before .before .args in
     rw (
-      sym (c .before .before .before .before .before .before .before .before .before .before .before .rule1 .ensures) ∙ not-false _ (c .before .before .before .before .before .before .before .before .before .before .if1 .left),
-      sym (c .before .before .before .before .before .before .before .before .before .rule2 .ensures) ∙ not-false _ (c .before .before .before .before .before .before .before .before .if2 .left),
-      in-order (a .z) (now (a .l)) _ (sym (c .before .before .before .before .before .order .given .1) ∙ c .before .before .before .before .before .before .before .rule3 .ensures),
-      sym (c .before .before .before .rule4 .ensures) ∙ not-false _ (c .before .before .if3 .left),
+      sym (a1 .before .rule1 .ensures) ∙ not-false _ (a1 .if1 .left),
+      sym (a2 .before .rule2 .ensures) ∙ not-false _ (a2 .if2 .left),
+      in-order (a .z) (now (a .l)) _ (sym (o .order .given .1) ∙ o .before .before .rule3 .ensures),
+      sym (a4 .before .rule4 .ensures) ∙ not-false _ (a4 .if3 .left),
       sym (c .before .rule5 .ensures) ∙ not-true _ (c .if4 .taken),
     )
 
 returns-6 : tie.Need-returns-6
 returns-6 c =
-    let a = c .before .before .before .before .before .before .before .before .before .before .before .before .before .before .before .args in
+    let a5 = c .before .before in
+    let a4 = a5 .before .before in
+    let o = a4 .before .before .before in
+    let a2 = o .before .before .before in
+    let a1 = a2 .before .before in
+    let a = a1 .before .before .before .args in
     rw (
-      sym (c .before .before .before .before .before .before .before .before .before .before .before .before .before .rule1 .ensures) ∙ not-false _ (c .before .before .before .before .before .before .before .before .before .before .before .before .if1 .left),
-      sym (c .before .before .before .before .before .before .before .before .before .before .before .rule2 .ensures) ∙ not-false _ (c .before .before .before .before .before .before .before .before .before .before .if2 .left),
-      in-order (a .z) (now (a .l)) _ (sym (c .before .before .before .before .before .before .before .order .given .1) ∙ c .before .before .before .before .before .before .before .before .before .rule3 .ensures),
-      sym (c .before .before .before .before .before .rule4 .ensures) ∙ not-false _ (c .before .before .before .before .if3 .left),
-      sym (c .before .before .before .rule5 .ensures) ∙ not-false _ (c .before .before .if4 .left),
+      sym (a1 .before .rule1 .ensures) ∙ not-false _ (a1 .if1 .left),
+      sym (a2 .before .rule2 .ensures) ∙ not-false _ (a2 .if2 .left),
+      in-order (a .z) (now (a .l)) _ (sym (o .order .given .1) ∙ o .before .before .rule3 .ensures),
+      sym (a4 .before .rule4 .ensures) ∙ not-false _ (a4 .if3 .left),
+      sym (a5 .before .rule5 .ensures) ∙ not-false _ (a5 .if4 .left),
       sym (c .before .rule6 .ensures) ∙ not-true _ (c .if5 .taken),
     )
 
 returns-7 : tie.Need-returns-7
 returns-7 c =
-    let a = c .before .before .before .before .before .before .before .before .before .before .before .before .before .before .before .before .before .args in
+    let a6 = c .before .before in
+    let a5 = a6 .before .before in
+    let a4 = a5 .before .before in
+    let o = a4 .before .before .before in
+    let a2 = o .before .before .before in
+    let a1 = a2 .before .before in
+    let a = a1 .before .before .before .args in
     rw (
-      sym (c .before .before .before .before .before .before .before .before .before .before .before .before .before .before .before .rule1 .ensures) ∙ not-false _ (c .before .before .before .before .before .before .before .before .before .before .before .before .before .before .if1 .left),
-      sym (c .before .before .before .before .before .before .before .before .before .before .before .before .before .rule2 .ensures) ∙ not-false _ (c .before .before .before .before .before .before .before .before .before .before .before .before .if2 .left),
-      in-order (a .z) (now (a .l)) _ (sym (c .before .before .before .before .before .before .before .before .before .order .given .1) ∙ c .before .before .before .before .before .before .before .before .before .before .before .rule3 .ensures),
-      sym (c .before .before .before .before .before .before .before .rule4 .ensures) ∙ not-false _ (c .before .before .before .before .before .before .if3 .left),
-      sym (c .before .before .before .before .before .rule5 .ensures) ∙ not-false _ (c .before .before .before .before .if4 .left),
-      sym (c .before .before .before .rule6 .ensures) ∙ not-false _ (c .before .before .if5 .left),
-      sym (due (a .z) (now (a .l)) _ (sym (c .before .before .before .before .before .before .before .before .before .order .given .1) ∙ c .before .before .before .before .before .before .before .before .before .before .before .rule3 .ensures)) ∙ sym (c .before .rule7 .ensures) ∙ not-true _ (c .if6 .taken),
+      sym (a1 .before .rule1 .ensures) ∙ not-false _ (a1 .if1 .left),
+      sym (a2 .before .rule2 .ensures) ∙ not-false _ (a2 .if2 .left),
+      in-order (a .z) (now (a .l)) _ (sym (o .order .given .1) ∙ o .before .before .rule3 .ensures),
+      sym (a4 .before .rule4 .ensures) ∙ not-false _ (a4 .if3 .left),
+      sym (a5 .before .rule5 .ensures) ∙ not-false _ (a5 .if4 .left),
+      sym (a6 .before .rule6 .ensures) ∙ not-false _ (a6 .if5 .left),
+      sym (due (a .z) (now (a .l)) _ (sym (o .order .given .1) ∙ o .before .before .rule3 .ensures)) ∙ sym (c .before .rule7 .ensures) ∙ not-true _ (c .if6 .taken),
     )
 
 returns-8 : tie.Need-returns-8
 returns-8 c =
-    let a = c .before .before .before .before .before .before .before .before .before .before .before .before .before .before .before .before .before .args in
+    let a6 = c .before .before in
+    let a5 = a6 .before .before in
+    let a4 = a5 .before .before in
+    let o = a4 .before .before .before in
+    let a2 = o .before .before .before in
+    let a1 = a2 .before .before in
+    let a = a1 .before .before .before .args in
     rw (
-      sym (c .before .before .before .before .before .before .before .before .before .before .before .before .before .before .before .rule1 .ensures) ∙ not-false _ (c .before .before .before .before .before .before .before .before .before .before .before .before .before .before .if1 .left),
-      sym (c .before .before .before .before .before .before .before .before .before .before .before .before .before .rule2 .ensures) ∙ not-false _ (c .before .before .before .before .before .before .before .before .before .before .before .before .if2 .left),
-      in-order (a .z) (now (a .l)) _ (sym (c .before .before .before .before .before .before .before .before .before .order .given .1) ∙ c .before .before .before .before .before .before .before .before .before .before .before .rule3 .ensures),
-      sym (c .before .before .before .before .before .before .before .rule4 .ensures) ∙ not-false _ (c .before .before .before .before .before .before .if3 .left),
-      sym (c .before .before .before .before .before .rule5 .ensures) ∙ not-false _ (c .before .before .before .before .if4 .left),
-      sym (c .before .before .before .rule6 .ensures) ∙ not-false _ (c .before .before .if5 .left),
-      sym (due (a .z) (now (a .l)) _ (sym (c .before .before .before .before .before .before .before .before .before .order .given .1) ∙ c .before .before .before .before .before .before .before .before .before .before .before .rule3 .ensures)) ∙ sym (c .before .rule7 .ensures) ∙ not-false _ (c .if6 .left),
+      sym (a1 .before .rule1 .ensures) ∙ not-false _ (a1 .if1 .left),
+      sym (a2 .before .rule2 .ensures) ∙ not-false _ (a2 .if2 .left),
+      in-order (a .z) (now (a .l)) _ (sym (o .order .given .1) ∙ o .before .before .rule3 .ensures),
+      sym (a4 .before .rule4 .ensures) ∙ not-false _ (a4 .if3 .left),
+      sym (a5 .before .rule5 .ensures) ∙ not-false _ (a5 .if4 .left),
+      sym (a6 .before .rule6 .ensures) ∙ not-false _ (a6 .if5 .left),
+      sym (due (a .z) (now (a .l)) _ (sym (o .order .given .1) ∙ o .before .before .rule3 .ensures)) ∙ sym (c .before .rule7 .ensures) ∙ not-false _ (c .if6 .left),
     )
 
 pub broken-rule-spec : {M : Type 1} → statement M
 broken-rule-spec =
     tie.close
-    (tie.spec (λ c κs. search needs) returns (λ c κs. search needs) returns-2 (λ c κs. search needs) (λ c. search needs) (λ c. search needs) returns-3 (λ c κs. search needs) returns-4 (λ c κs. search needs) returns-5 (λ c κs. search needs) returns-6 (λ c κs. search needs) returns-7 returns-8)
+    (tie.spec (λ c κs. search needs) returns (λ c κs. search needs) returns-2 (λ c κs. search needs) (λ c. search needs)
+    (λ c. search needs) returns-3 (λ c κs. search needs) returns-4 (λ c κs. search needs) returns-5
+    (λ c κs. search needs) returns-6 (λ c κs. search needs) returns-7 returns-8)

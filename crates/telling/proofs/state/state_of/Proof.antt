@@ -13,14 +13,22 @@ returns-3 c = rw (c .before .before .before .before .if1 .left, sym (c .before .
 returns-4 : tie.Need-returns-4
 returns-4 c =
     let r = c .before .before .before in
-    rw
-    (r .before .before .before .if1 .left, sym (r .before .before .has .ensures) ∙ r .before .if2 .left, sym (r .has2 .ensures) ∙ c .before .before .if3 .left, sym (c .before .has3 .ensures) ∙ c .if4 .taken)
+    rw (
+      r .before .before .before .if1 .left,
+      sym (r .before .before .has .ensures) ∙ r .before .if2 .left,
+      sym (r .has2 .ensures) ∙ c .before .before .if3 .left,
+      sym (c .before .has3 .ensures) ∙ c .if4 .taken,
+    )
 
 returns-5 : tie.Need-returns-5
 returns-5 c =
     let r = c .before .before .before in
-    rw
-    (r .before .before .before .if1 .left, sym (r .before .before .has .ensures) ∙ r .before .if2 .left, sym (r .has2 .ensures) ∙ c .before .before .if3 .left, sym (c .before .has3 .ensures) ∙ c .if4 .left)
+    rw (
+      r .before .before .before .if1 .left,
+      sym (r .before .before .has .ensures) ∙ r .before .if2 .left,
+      sym (r .has2 .ensures) ∙ c .before .before .if3 .left,
+      sym (c .before .has3 .ensures) ∙ c .if4 .left,
+    )
 
 pub state-of-spec : {M : Type 1} → statement M
 state-of-spec =
