@@ -1,6 +1,6 @@
 //! The board and its calls.
 use crate::answer::{unpack, Answer, Refusal};
-use crate::words::{MsgNo, Prio, Status, TaskNo};
+use crate::numbers::{MsgNo, Prio, Status, TaskNo};
 use crate::{sys, BYTES};
 use core::fmt;
 

@@ -46,13 +46,13 @@ extern crate std;
 
 mod answer;
 mod board;
+mod numbers;
 #[allow(unsafe_code)]
 mod sys;
-mod words;
 
 pub use answer::{Accepted, Answer, Refusal};
 pub use board::Board;
-pub use words::{MsgNo, Prio, Status, TaskNo};
+pub use numbers::{MsgNo, Prio, Status, TaskNo};
 
 /// The bytes of a board.
 pub const BYTES: usize = 1476;

@@ -115,22 +115,22 @@ rule3-is z b e =
 
 -- ---- R5
 -- a place that is queued names a task of the board
-abbrev pub Named : Size → Place → Type 0
-Named z Free = Unit {0}
-Named z (HeldBy k) = Unit {0}
-Named z (QueuedAt k) = (1 ≤ k .0) × (k .0 ≤ z .tasks)
-Named z (Nowhere p) = Unit {0}
+abbrev pub NamesTask : Size → Place → Type 0
+NamesTask z Free = Unit {0}
+NamesTask z (HeldBy k) = Unit {0}
+NamesTask z (QueuedAt k) = (1 ≤ k .0) × (k .0 ≤ z .tasks)
+NamesTask z (Nowhere p) = Unit {0}
 
-place-named : (z : Size) (p : ℕ) → Named z (placeOf z p)
+place-named : (z : Size) (p : ℕ) → NamesTask z (placeOf z p)
 place-named z p = go (eqb p 0) refl (outside (z .tasks) p) refl (outside (z .tasks) (p - 64)) refl
   where
     go : (s : Bool) → eqb p 0 ≡ s → (t : Bool) → outside (z .tasks) p ≡ t → (u : Bool) → outside (z .tasks) (p - 64) ≡ u
-        → Named z (placeOf z p)
-    go true e t f u g = subst (Named z) (sym (place-free z p (eqb-true p 0 e))) tt
-    go false e true f true g = subst (Named z) (sym (place-nowhere z p (eqb-false p 0 e) f g)) tt
+        → NamesTask z (placeOf z p)
+    go true e t f u g = subst (NamesTask z) (sym (place-free z p (eqb-true p 0 e))) tt
+    go false e true f true g = subst (NamesTask z) (sym (place-nowhere z p (eqb-false p 0 e) f g)) tt
     go false e true f false g =
-        subst (Named z) (sym (place-receiver z p (p - 64) (eqb-false p 0 e) f refl g)) (outside-within (z .tasks) (p - 64) g)
-    go false e false f u g = let r = outside-within (z .tasks) p f in subst (Named z) (sym (place-held z p (r .0) (r .1))) tt
+        subst (NamesTask z) (sym (place-receiver z p (p - 64) (eqb-false p 0 e) f refl g)) (outside-within (z .tasks) (p - 64) g)
+    go false e false f u g = let r = outside-within (z .tasks) p f in subst (NamesTask z) (sym (place-held z p (r .0) (r .1))) tt
 
 mapped-at : {A B : Type 0} (P : B → Type 0) (f : A → B) → ((x : A) → P (f x)) → (l : List A) (i : ℕ) → i < length (map f l)
     → (none : B) → P (getD (map f l) i none)
@@ -140,10 +140,10 @@ mapped-at P f h (x ∷ l) (suc i) j none = mapped-at P f h l i (omega arith) non
 
 -- so it is with every place that is read from bytes
 pub places-named : (z : Size) (l : List ℕ) (i : ℕ) → i < length (boardOf z l .places) → (none : Place)
-    → Named z (getD (boardOf z l .places) i none)
-places-named z l = mapped-at (Named z) (placeIn z) (λ p. place-named z (getD p 0 0)) (pieces (placeArea z) l)
+    → NamesTask z (getD (boardOf z l .places) i none)
+places-named z l = mapped-at (NamesTask z) (placeIn z) (λ p. place-named z (getD p 0 0)) (pieces (placeArea z) l)
 
-named-once : (z : Size) (p : Place) → Named z p → sumTo (λ k. one (isQueuedAt k p)) (z .tasks) ≡ one (isQueued p)
+named-once : (z : Size) (p : Place) → NamesTask z p → sumTo (λ k. one (isQueuedAt k p)) (z .tasks) ≡ one (isQueued p)
 named-once z Free h = sum-zero (z .tasks)
 named-once z (HeldBy k) h = sum-zero (z .tasks)
 named-once z (QueuedAt k) h = sum-once (k .0) (z .tasks) (h .0) (h .1)
@@ -209,13 +209,13 @@ module _ (z : Size) (b : Board) where
 
   -- the walks of all queues together saw as many as are queued
   pub rule5-is : length (b .places) ≡ z .messages
-      → ((i : ℕ) → i < length (b .places) → (none : Place) → Named z (getD (b .places) i none))
+      → ((i : ℕ) → i < length (b .places) → (none : Place) → NamesTask z (getD (b .places) i none))
       → saw (walked z b (z .tasks)) (counted (queued b) (z .messages)) ≡ each (rule5At z b) (z .tasks)
   rule5-is e named =
       let w = sumTo (λ k. length (walkOf k)) (z .tasks) in
       let p = sumTo (λ k. length (placedAt k)) (z .tasks) in
       ap₂ saw (walked-is (z .tasks))
       (ap (counted (queued b)) (sym e) ∙ counted-which Free isQueued 1 (b .places)
-      ∙ sym (counts-add isQueuedAt isQueued (Named z) (z .tasks) 1 (named-once z) (b .places) named))
+      ∙ sym (counts-add isQueuedAt isQueued (NamesTask z) (z .tasks) 1 (named-once z) (b .places) named))
       ∙ saw-cond (each fine (z .tasks)) w p
       ∙ alike (each fine (z .tasks) && eqb w p) (each (rule5At z b) (z .tasks)) (sum-each (z .tasks)) (each-sum (z .tasks))

@@ -114,6 +114,19 @@ fn answer_case(kind: u8, asked: Asked, before: &mut [u8], after: &mut [u8]) -> b
     true
 }
 
+// The call on the board of n bytes that comes next. The large buffers cost more than the call, so they are for long boards only.
+fn on_board(kind: u8, asked: Asked, n: u16) -> bool {
+    let end = n as usize;
+    if n <= 4096 {
+        let mut before = io::buffer();
+        let mut after = io::buffer();
+        return answer_case(kind, asked, &mut before[..end], &mut after[..end]);
+    }
+    let mut before = io::large_buffer();
+    let mut after = io::large_buffer();
+    answer_case(kind, asked, &mut before[..end], &mut after[..end])
+}
+
 // One case; false at the end of the input, or where it is cut short.
 fn one_case() -> bool {
     let mut head = [0u8; 11];
@@ -125,7 +138,6 @@ fn one_case() -> bool {
         print_text(b"error: the last call is cut short\n");
         return false;
     }
-    let n = word(head[0], head[1]) as usize;
     let asked = call_of_kind(
         head[2],
         word(head[3], head[4]),
@@ -134,9 +146,7 @@ fn one_case() -> bool {
         head[9],
         head[10],
     );
-    let mut before = io::large_buffer();
-    let mut after = io::large_buffer();
-    answer_case(head[2], asked, &mut before[..n], &mut after[..n])
+    on_board(head[2], asked, word(head[0], head[1]))
 }
 
 fn main() {
