@@ -1,8 +1,4 @@
 // CODE. The nineteen bodies behind one match, and dispatch behind them: a call on a board that passes.
-ghost use mathlib.Core.Path.{_≡_};
-ghost use Prim.Native.Nat.{_≤_};
-ghost use lib.ListN.{length};
-ghost use Rattle.board.specs.Board.{total};
 ghost use Rattle.paper.specs.Outcomes.{Ends};
 ghost use Rattle.stores.specs.Answers.{Runs, Makes};
 ghost use Rattle.stores.specs.Calls.{stepping, called};

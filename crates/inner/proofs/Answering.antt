@@ -1,5 +1,5 @@
 -- What held and present_task answer, by the tests that code makes. Assumes nothing.
-use mathlib.Core.Path.{_≡_, refl, sym, ap, _∙_}
+use mathlib.Core.Path.{_≡_, sym, ap, _∙_}
 use mathlib.Core.Bool.{Bool, true, false, cond, not, _||_}
 use mathlib.Core.List.{List, [], _∷_}
 use Prim.Native.Nat.{ℕ}
@@ -18,8 +18,7 @@ use Rattle.board.specs.Board.{Board, boardOf, task, place}
 use Rattle.board.proofs.Meant.{taskMeant-task, taskMeant-none, messageMeant-message, messageMeant-none}
 use Rattle.paper.specs.declared.answer.Refusal.the-variants.{NobodyRuns, NoSuchMessage, NotHeld}
 use Rattle.paper.specs.Rules.{present, isThere, running}
-use Rattle.paper.specs.Refusals.{no3, no4, no5, Verdict, Go, lowest}
-use Rattle.stores.specs.declared.Held.{Held}
+use Rattle.paper.specs.Refusals.{no3, no4, no5, Verdict, lowest}
 use Rattle.stores.specs.declared.Held.the-variants as held
 use Rattle.stores.specs.Answers.{heldBy, heldOf, presentMeant}
 use Rattle.paper.proofs.Rows.{lowest-stop, lowest-on}

@@ -11,7 +11,6 @@ use borrow.Author.Tests.{eq-eqb, ne-eqb}
 use Rattle.board.specs.declared.numbers.Size.{Size}
 use Rattle.board.specs.declared.numbers.TaskNo.{TaskNo}
 use Rattle.board.specs.declared.numbers.MsgNo.{MsgNo}
-use Rattle.board.specs.declared.numbers.TaskMeant.{TaskMeant}
 use Rattle.board.specs.declared.numbers.TaskMeant.the-variants.{Task, NoTask}
 use Rattle.board.specs.Numbers.{outside, taskNo, taskMeant}
 use Rattle.board.specs.Board.{Board, boardOf}
@@ -20,8 +19,6 @@ use Rattle.board.proofs.Meant.{taskMeant-task, taskMeant-none}
 use Rattle.paper.specs.declared.answer.Refusal.{Refusal}
 use Rattle.paper.specs.Rules.{present, running}
 use Rattle.paper.specs.Refusals.{Test, no3, no4, no5, no6, Verdict, Go, Stop, lowest}
-use Rattle.paper.proofs.Rows.{lowest-stop, lowest-on}
-use Rattle.stores.specs.declared.Held.{Held}
 use Rattle.stores.specs.declared.Held.the-variants as held
 use Rattle.stores.specs.Answers.{heldBy, heldOf, presentMeant}
 use Rattle.inner.proofs.Runner.{runner-within}

@@ -1,5 +1,4 @@
 // CODE. The bodies of post interrupt and wait for interrupt. Each tests the refusals of its row in the paper's order, and only then writes.
-ghost use mathlib.Core.Path.{_≡_};
 ghost use Prim.Native.Nat.{_≤_};
 ghost use lib.ListN.{length};
 ghost use Rattle.board.specs.Board.{total};

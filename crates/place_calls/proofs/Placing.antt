@@ -1,6 +1,6 @@
 -- What wake and place have stored, in plain variables: t is the task read, on the test of WAIT, d and e the bytes after each store.
 -- Assumes nothing.
-use mathlib.Core.Path.{_≡_, sym, ap, _∙_}
+use mathlib.Core.Path.{_≡_, sym, _∙_}
 use mathlib.Core.Bool.{Bool, true, false, cond}
 use mathlib.Core.List.{List}
 use Prim.Native.Nat.{ℕ}

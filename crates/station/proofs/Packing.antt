@@ -5,7 +5,7 @@ use native.Mathlib.Omega.{arith}
 use Rattle.paper.specs.declared.answer.Refusal.{Refusal}
 use Rattle.paper.specs.declared.answer.Answer.{Answer}
 use Rattle.paper.specs.declared.answer.Answer.the-variants.{Accepted, Refused}
-use Rattle.paper.specs.Answers.{numberOf, Handed, handed}
+use Rattle.paper.specs.Answers.{numberOf, handed}
 use Rattle.station.specs.Packed.{packed}
 
 module _ {a : Answer} where

@@ -1,7 +1,6 @@
 -- `place_calls::sends::resend` meets its contract.
 use mathlib.Core.Path.{refl}
 use denote.Ref.{now}
-use Rattle.board.specs.declared.records.Message.{Message}
 use Rattle.board.specs.Board.{boardOf, message}
 use Rattle.paper.specs.declared.call.Call.the-variants.{Resend}
 use Rattle.inner.proofs.Steps.{not-held-stops}
