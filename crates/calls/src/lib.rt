@@ -81,6 +81,6 @@ pub fn make_call(z: Size, l: &mut [u8], c: TaskMeant, call: Call) -> Answer
     requires { ⌜ Runs z (now l) c ⌝ }
     ensures { λ res. ⌜ Ends res (now (l .exit)) (called z (now (l .entry)) call) ⌝ }
 {
-    let step = body(z, l, c, call);
-    dispatch(z, l, c, step)
+    let done = body(z, l, c, call);
+    dispatch(z, l, c, done)
 }
