@@ -1,8 +1,8 @@
 -- What each turn of a loop that asks every number makes of the definition: a hypothesis for each test and each callee's contract.
 -- Assumes nothing.
 use mathlib.Core.Path.{_≡_, refl, sym, ap, _∙_}
-use mathlib.Core.Bool.{Bool, true, false, not, true≢false}
-use Prim.Native.Nat.{ℕ, suc, _+_, _<_}
+use mathlib.Core.Bool.{Bool, true, false, not, _&&_, true≢false}
+use Prim.Native.Nat.{ℕ, zero, suc, _+_, _<_}
 use native.Mathlib.Omega.{arith}
 use borrow.Author.Tests.{not-true, not-false}
 use Rattle.links.specs.Queue.{each}
@@ -27,3 +27,14 @@ module _ (f : ℕ → Bool) where
   -- it was the last
   pub each-done : (n k : ℕ) → k ≡ n → each f k ≡ true → true ≡ each f n
   each-done n k e h = sym h ∙ ap (each f) e
+
+-- two tests asked together of every number
+pub each-both : (f g : ℕ → Bool) (n : ℕ) → each (λ k. f k && g k) n ≡ each f n && each g n
+each-both f g zero = refl
+each-both f g (suc n) = ap (λ (t : Bool). t && (f (suc n) && g (suc n))) (each-both f g n) ∙ swap (each f n) (each g n) (f (suc n)) (g (suc n))
+  where
+    swap : (s t u v : Bool) → s && t && (u && v) ≡ s && u && (t && v)
+    swap true true u v = refl
+    swap true false true v = refl
+    swap true false false v = refl
+    swap false t u v = refl

@@ -244,3 +244,29 @@ pub fn rule6(z: Size, l: &[u8]) -> bool
     }
     true
 }
+
+// One task's record keeps R2 and R6.
+fn good_one(t: Task) -> bool
+    ensures { λ res. ⌜ res ≡ (goodTask t && goodFlags (t .stat) (eqb (t .mptr) 0)) ⌝ }
+{
+    if !good_task(t) {
+        return false;
+    }
+    good_flags(t.stat, t.mptr == 0)
+}
+
+// R2 and R6 in one pass over the tasks: the check asks it. Who tells which rule is broken asks them one by one.
+pub fn good_tasks(z: Size, l: &[u8]) -> bool
+    requires { ⌜ total z ≤ length (now l) ⌝ }
+    ensures { λ res. ⌜ res ≡ (each (rule2At (boardOf z (now (l .entry)))) (z .tasks) && each (rule6At (boardOf z (now (l .entry)))) (z .tasks)) ⌝ }
+{
+    let most = z.tasks;
+    let mut k: u16 = 0;
+    while k < most {
+        k += 1;
+        if !good_one(task_meant(z, l, k)) {
+            return false;
+        }
+    }
+    true
+}

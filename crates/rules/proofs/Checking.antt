@@ -5,7 +5,7 @@ use mathlib.Core.Bool.{Bool, true, false, cond, not, _&&_, and-false}
 use mathlib.Core.List.{List}
 use Prim.Native.Nat.{ℕ}
 use Rattle.links.specs.Queue.{each}
-use Rattle.links.proofs.Bools.{and-true}
+use Rattle.links.proofs.Bools.{and-true, both}
 use Rattle.board.specs.declared.numbers.Size.{Size}
 use Rattle.board.specs.declared.numbers.TaskMeant.{TaskMeant}
 use Rattle.board.specs.declared.numbers.TaskMeant.the-variants as who
@@ -95,7 +95,7 @@ module _ (z : Size) (l : List ℕ) where
   pub breaks1 : rule1 b ≡ false → Broken ≡ checkedOf z b
   breaks1 e = after3 (first to2 (rule3 z b) (first (rule1 b) r2 e))
 
-  pub breaks2 : r2 ≡ false → Broken ≡ checkedOf z b
+  breaks2 : r2 ≡ false → Broken ≡ checkedOf z b
   breaks2 e = after3 (first to2 (rule3 z b) (second (rule1 b) r2 e))
 
   pub out-of-order : order.Broken ≡ listed z b → rule3 z b ≡ false
@@ -110,8 +110,16 @@ module _ (z : Size) (l : List ℕ) where
   pub breaks5 : r5 ≡ false → Broken ≡ checkedOf z b
   breaks5 e = broken (first to5 r6 (second to4 r5 e))
 
-  pub breaks6 : r6 ≡ false → Broken ≡ checkedOf z b
+  breaks6 : r6 ≡ false → Broken ≡ checkedOf z b
   breaks6 e = broken (second to5 r6 e)
+
+  -- R2 and R6, asked together
+  pub breaks2-6 : r2 && r6 ≡ false → Broken ≡ checkedOf z b
+  breaks2-6 e = go r2 refl
+    where
+      go : (t : Bool) → r2 ≡ t → Broken ≡ checkedOf z b
+      go true f = breaks6 (sym (ap (λ (u : Bool). u && r6) f) ∙ e)
+      go false f = breaks2 f
 
   -- ---- R3's walk met c
   task-met : (w : ℕ) → task b (numberOfTask (taskMeant z w)) ≡ task b w
@@ -139,10 +147,11 @@ module _ (z : Size) (l : List ℕ) where
         ap (λ (t : Bool). cond t (Passes (taskMeant z (running z b))) Broken) (sym (second to6 (rule7 z b) (sym due ∙ f)))
 
     -- all hold
-    pub all-hold : rule1 b ≡ true → r2 ≡ true → r4 ≡ true → r5 ≡ true → r6 ≡ true → notDue b c ≡ true
+    pub all-hold : rule1 b ≡ true → r2 && r6 ≡ true → r4 ≡ true → r5 ≡ true → notDue b c ≡ true
         → Passes c ≡ checkedOf z b
-    all-hold h1 h2 h4 h5 h6 h7 =
-        let a3 = and-true to2 (rule3 z b) (and-true (rule1 b) r2 h1 h2) in-order in
+    all-hold h1 h26 h4 h5 h7 =
+        let h = both r2 r6 h26 in
+        let a3 = and-true to2 (rule3 z b) (and-true (rule1 b) r2 h1 (h .0)) in-order in
         let a5 = and-true to4 r5 (and-true to3 r4 a3 h4) h5 in
-        let a7 = and-true to6 (rule7 z b) (and-true to5 r6 a5 h6) (sym due ∙ h7) in
+        let a7 = and-true to6 (rule7 z b) (and-true to5 r6 a5 (h .1)) (sym due ∙ h7) in
         ap Passes runs ∙ ap (λ (t : Bool). cond t (Passes (taskMeant z (running z b))) Broken) (sym a7)

@@ -12,10 +12,9 @@ use lent::bytes::task_at;
 use queue_rules::messages::rule5;
 use queue_rules::tasks::Order;
 use queue_rules::tasks::rule3;
+use record_rules::good_tasks;
 use record_rules::rule1;
-use record_rules::rule2;
 use record_rules::rule4;
-use record_rules::rule6;
 
 // What the check found: a broken rule, or that this task runs.
 pub enum Checked {
@@ -43,7 +42,7 @@ pub fn check_rules(z: Size, l: &[u8]) -> Checked
     if !rule1(l) {
         return Checked::Broken;
     }
-    if !rule2(z, l) {
+    if !good_tasks(z, l) {
         return Checked::Broken;
     }
     let order = rule3(z, l);
@@ -54,9 +53,6 @@ pub fn check_rules(z: Size, l: &[u8]) -> Checked
         return Checked::Broken;
     }
     if !rule5(z, l) {
-        return Checked::Broken;
-    }
-    if !rule6(z, l) {
         return Checked::Broken;
     }
     if !rule7(z, l, c) {

@@ -2,7 +2,7 @@
 use mathlib.Core.Path.{sym, _∙_}
 use denote.Ref.{now}
 use borrow.Author.Tests.{not-true, not-false}
-use Rattle.rules.proofs.Checking.{breaks1, breaks2, breaks3, breaks4, breaks5, breaks6, breaks7, all-hold}
+use Rattle.rules.proofs.Checking.{breaks1, breaks2-6, breaks3, breaks4, breaks5, breaks7, all-hold}
 use borrow.Author.Needs.{needs}
 use Rattle.rules.proofs.check_rules.Statement.{statement}
 use Rattle.rules.proofs.check_rules.Tie as tie
@@ -15,7 +15,7 @@ returns c =
 returns-2 : tie.Need-returns-2
 returns-2 c =
     let a = c .before .before .before .before .before .args in
-    breaks2 (a .z) (now (a .l)) (sym (c .before .rule2 .ensures) ∙ not-true _ (c .if2 .taken))
+    breaks2-6 (a .z) (now (a .l)) (sym (c .before .good-tasks .ensures) ∙ not-true _ (c .if2 .taken))
 
 returns-3 : tie.Need-returns-3
 returns-3 c =
@@ -34,33 +34,26 @@ returns-5 c =
 
 returns-6 : tie.Need-returns-6
 returns-6 c =
-    let a = c .before .before .before .before .before .before .before .before .before .before .before .before .before .before .before .args in
-    breaks6 (a .z) (now (a .l)) (sym (c .before .rule6 .ensures) ∙ not-true _ (c .if5 .taken))
+    let o = c .before .before .before .before .before .before .before in
+    let a = o .before .before .before .before .before .before .before .before .args in
+    breaks7 (a .z) (now (a .l)) _ (sym (o .order .given .1) ∙ o .before .before .rule3 .ensures)
+    (sym (c .before .rule7 .ensures) ∙ not-true _ (c .if5 .taken))
 
 returns-7 : tie.Need-returns-7
 returns-7 c =
-    let o = c .before .before .before .before .before .before .before .before .before in
-    let a = o .before .before .before .before .before .before .before .before .args in
-    breaks7 (a .z) (now (a .l)) _ (sym (o .order .given .1) ∙ o .before .before .rule3 .ensures)
-    (sym (c .before .rule7 .ensures) ∙ not-true _ (c .if6 .taken))
-
-returns-8 : tie.Need-returns-8
-returns-8 c =
-    let r = c .before .before .before in
-    let q = r .before .before .before .before in
+    let q = c .before .before .before .before .before in
     let o = q .before .before in
     let s = o .before .before .before .before in
     let f = s .before .before in
     let a = f .before .before .args in
     all-hold (a .z) (now (a .l)) _ (sym (o .order .given .1) ∙ o .before .before .rule3 .ensures)
-    (sym (f .rule1 .ensures) ∙ not-false _ (s .before .if1 .left)) (sym (s .rule2 .ensures) ∙ not-false _ (o .before .before .before .if2 .left))
-    (sym (q .rule4 .ensures) ∙ not-false _ (r .before .before .before .if3 .left))
-    (sym (r .before .before .rule5 .ensures) ∙ not-false _ (r .before .if4 .left))
-    (sym (r .rule6 .ensures) ∙ not-false _ (c .before .before .if5 .left)) (sym (c .before .rule7 .ensures) ∙ not-false _ (c .if6 .left))
+    (sym (f .rule1 .ensures) ∙ not-false _ (s .before .if1 .left))
+    (sym (s .good-tasks .ensures) ∙ not-false _ (o .before .before .before .if2 .left))
+    (sym (q .rule4 .ensures) ∙ not-false _ (c .before .before .before .before .if3 .left))
+    (sym (c .before .before .before .rule5 .ensures) ∙ not-false _ (c .before .before .if4 .left))
+    (sym (c .before .rule7 .ensures) ∙ not-false _ (c .if5 .left))
 
 pub check-rules-spec : {M : Type 1} → statement M
 check-rules-spec =
     tie.close
-    (tie.spec (λ c κs. search needs) returns (λ c κs. search needs) returns-2 (λ c κs. search needs) (λ c. search needs)
-    (λ c. search needs) returns-3 (λ c κs. search needs) returns-4 (λ c κs. search needs) returns-5
-    (λ c κs. search needs) returns-6 (λ c κs. search needs) returns-7 returns-8)
+    (tie.spec (λ c κs. search needs) returns (λ c κs. search needs) returns-2 (λ c κs. search needs) (λ c. search needs) (λ c. search needs) returns-3 (λ c κs. search needs) returns-4 (λ c κs. search needs) returns-5 (λ c κs. search needs) returns-6 returns-7)
