@@ -1,18 +1,22 @@
--- A place byte as Place::of decodes it: one hypothesis for each test and each callee's contract.
+-- A place byte as Place::of decodes it, and as Place::says_queued compares it: one hypothesis for each test and each callee's contract.
 -- Assumes nothing.
 use mathlib.Core.Path.{_≡_, refl, sym, ap, _∙_}
 use mathlib.Core.Logic.{_≢_}
-use Prim.Native.Nat.{ℕ, _-_, _<_}
+use mathlib.Core.Bool.{Bool, true, false, true≢false, _||_}
+use Prim.Native.Nat.{ℕ, _+_, _-_, _≤_, _<_}
 use native.Mathlib.Omega.{arith}
+use lib.Dec.{eqb, ltb}
+use borrow.Author.Tests.{eqb-true, eqb-false, eq-eqb, ltb-true}
 use Rattle.board.specs.declared.numbers.Size.{Size}
 use Rattle.board.specs.declared.numbers.TaskNo.{TaskNo}
 use Rattle.board.specs.declared.numbers.TaskMeant.the-variants.{Task, NoTask}
-use Rattle.board.specs.declared.places.Place.the-variants.{HeldBy, QueuedAt, Nowhere}
-use Rattle.board.specs.Numbers.{taskMeant}
-use Rattle.board.specs.Places.{placeOf}
-use Rattle.board.proofs.Pieces.{outside-within, outside-zero}
+use Rattle.board.specs.declared.places.Place.{Place}
+use Rattle.board.specs.declared.places.Place.the-variants.{Free, HeldBy, QueuedAt, Nowhere}
+use Rattle.board.specs.Numbers.{outside, taskNo, taskMeant}
+use Rattle.board.specs.Places.{placeOf, isQueuedAt}
+use Rattle.board.proofs.Pieces.{outside-within, within-outside, outside-zero, outside-above}
 use Rattle.board.proofs.Meant.{taskMeant-task, taskMeant-none}
-use Rattle.board.proofs.Codec.{place-held, place-receiver, place-nowhere}
+use Rattle.board.proofs.Codec.{place-free, place-held, place-receiver, place-nowhere}
 
 -- ---- a place byte, by the tasks that it and it less 64 mean
 -- it means a task
@@ -36,3 +40,43 @@ pub placeOf-receiver : (z : Size) (p : ℕ) (k : TaskNo) → p ≢ 0 → taskMea
 placeOf-receiver z p k n e f =
     let m = taskMeant-task z (p - 64) k f in
     place-receiver z p (p - 64) n (taskMeant-none z p e) refl (m .0) ∙ ap QueuedAt (sym (m .1))
+
+-- ---- the place byte p and the task k
+module _ (z : Size) (k p : ℕ) where
+  -- it says so only as 64 + k, beyond every holder, for a task of the board
+  queued-says : isQueuedAt k (placeOf z p) ≡ true → (p ≡ 64 + k) × (z .tasks < p) × (k ≢ 0) × (k ≤ z .tasks)
+  queued-says e = go (eqb p 0) refl (outside (z .tasks) p) refl (outside (z .tasks) (p - 64)) refl
+    where
+      no : (x : Place) → placeOf z p ≡ x → isQueuedAt k x ≡ false → (p ≡ 64 + k) × (z .tasks < p) × (k ≢ 0) × (k ≤ z .tasks)
+      no x f g = absurd (true≢false (sym e ∙ ap (isQueuedAt k) f ∙ g))
+
+      go : (s : Bool) → eqb p 0 ≡ s → (t : Bool) → outside (z .tasks) p ≡ t → (u : Bool) → outside (z .tasks) (p - 64) ≡ u
+          → (p ≡ 64 + k) × (z .tasks < p) × (k ≢ 0) × (k ≤ z .tasks)
+      go true f t g u h = no Free (place-free z p (eqb-true p 0 f)) refl
+      go false f false g u h = let b = outside-within (z .tasks) p g in no (HeldBy (taskNo p)) (place-held z p (b .0) (b .1)) refl
+      go false f true g true h = no (Nowhere p) (place-nowhere z p (eqb-false p 0 f) g h) refl
+      go false f true g false h =
+          let b = outside-within (z .tasks) (p - 64) h in
+          let q = place-receiver z p (p - 64) (eqb-false p 0 f) g refl h in
+          let r : p - 64 ≡ k = eqb-true (p - 64) k (sym (ap (isQueuedAt k) q) ∙ e) in
+          let above = ltb-true (z .tasks) p (ap (λ (t : Bool). t || ltb (z .tasks) p) (sym f) ∙ g) in
+          (omega arith, above, (λ (i : k ≡ 0). omega arith), omega arith)
+
+  -- so where one of these fails it does not say so
+  pub says-not : ((p ≡ 64 + k) × (z .tasks < p) × (k ≢ 0) × (k ≤ z .tasks) → ⊥) → false ≡ isQueuedAt k (placeOf z p)
+  says-not h = go (isQueuedAt k (placeOf z p)) refl
+    where
+      go : (s : Bool) → isQueuedAt k (placeOf z p) ≡ s → false ≡ isQueuedAt k (placeOf z p)
+      go true e = absurd (h (queued-says e))
+      go false e = sym e
+
+  -- and where they hold it does
+  pub says-so : p ≡ 64 + k → z .tasks < p → k ≢ 0 → k ≤ z .tasks → true ≡ isQueuedAt k (placeOf z p)
+  says-so e a n h =
+      let q = place-receiver z p k (λ (i : p ≡ 0). omega arith) (outside-above (z .tasks) p a) (omega arith)
+      (within-outside (z .tasks) k (omega arith) h) in
+      sym (ap (isQueuedAt k) q ∙ eq-eqb k k refl)
+
+-- the code holds the task k as n
+pub says-number : (z : Size) (k n p : ℕ) (x : Bool) → n ≡ k → x ≡ isQueuedAt n (placeOf z p) → x ≡ isQueuedAt k (placeOf z p)
+says-number z k n p x e h = h ∙ ap (λ (j : ℕ). isQueuedAt j (placeOf z p)) e

@@ -84,9 +84,6 @@ onBoard-zero last w e = go (outside last w)
     go true = refl
     go false = e
 
-pub onBoard-outside : (last w : ℕ) → outside last w ≡ true → onBoard last w ≡ 0
-onBoard-outside last w e = ap (λ (t : Bool). cond t 0 w) e
-
 -- so a word that is 0 or a number up to the last is itself
 pub onBoard-most : (last w : ℕ) → w ≤ last → onBoard last w ≡ w
 onBoard-most last w h = go (eqb w 0) refl

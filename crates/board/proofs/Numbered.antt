@@ -6,7 +6,7 @@ use mathlib.Core.List.{List, [], _∷_, map}
 use Prim.Native.Nat.{ℕ, zero, suc, _≤_, _<_}
 use native.Mathlib.Omega.{arith}
 use lib.ListN.{length, getD, set, length-set, List·getD-map, List·getD-eq-default}
-use lib.Seq.{getD-set-same, getD-set-other, set-getD, set-set, set-comm, set-out}
+use lib.Seq.{getD-set-same, getD-set-other, set-getD, set-comm, set-out}
 use Rattle.board.specs.Board.{nth, put}
 
 module _ {A : Type 0} where
@@ -26,11 +26,6 @@ module _ {A : Type 0} where
   pub put-nth : (none : A) (l : List A) (k : ℕ) → put l k (nth none l k) ≡ l
   put-nth none l zero = refl
   put-nth none l (suc i) = set-getD l i none
-
-  -- the last of two writes stands
-  pub put-put : (l : List A) (k : ℕ) (x y : A) → put (put l k x) k y ≡ put l k y
-  put-put l zero x y = refl
-  put-put l (suc i) x y = set-set l i x y
 
   -- writes of two numbers go either way round
   pub put-comm : (l : List A) (k j : ℕ) (x y : A) → k ≢ j → put (put l k x) j y ≡ put (put l j y) k x

@@ -2,7 +2,6 @@
 // a place or an argument that names nothing never becomes one; and one kind is never taken for the other.
 ghost use mathlib.Core.Path.{_≡_};
 ghost use Rattle.board.specs.Numbers.{taskMeant, messageMeant, numberOfTask, numberOfMessage};
-ghost use Rattle.board.specs.Board.{total};
 
 // How many tasks and messages a board has.
 pub struct Size {
@@ -15,13 +14,6 @@ impl Size {
         tasks: 32,
         messages: 128,
     };
-
-    // The bytes of a board.
-    pub fn total(self) -> u32
-        ensures { λ res. ⌜ res ≡ total self ⌝ }
-    {
-        4 + 10 * (self.tasks as u32) + 9 * (self.messages as u32)
-    }
 }
 
 // The number of a task, from 1.

@@ -59,15 +59,24 @@ impl Place {
         }
     }
 
-    // In the queue of task r.
-    pub fn is_queued_at(self, r: TaskNo) -> bool
-        ensures { λ res. ⌜ res ≡ isQueuedAt (r .0) self ⌝ }
+    // The place byte p says 'queued at task k'. A walk asks it of every message, so the byte is compared and not decoded.
+    pub fn says_queued(z: Size, k: TaskNo, p: u8) -> bool
+        ensures { λ res. ⌜ res ≡ isQueuedAt (k .0) (placeOf z p) ⌝ }
     {
-        match self {
-            Place::Free => false,
-            Place::HeldBy(_) => false,
-            Place::QueuedAt(k) => k.number() == r.number(),
-            Place::Nowhere(_) => false,
+        let n = k.number();
+        if p as u32 != 64 + n as u32 {
+            return false;
         }
+        // among more than 64 tasks this byte would name a holder
+        if (p as u16) <= z.tasks {
+            return false;
+        }
+        if n == 0 {
+            return false;
+        }
+        if z.tasks < n {
+            return false;
+        }
+        true
     }
 }

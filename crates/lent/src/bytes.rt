@@ -7,7 +7,7 @@ ghost use lib.Dec.{eqb};
 ghost use lib.ListN.{getD, set, length};
 ghost use Rattle.board.specs.Numbers.{taskMeant, messageMeant, numberOfTask};
 ghost use Rattle.board.specs.Records.{wordAt};
-ghost use Rattle.board.specs.Places.{placeOf, isQueuedAt};
+ghost use Rattle.board.specs.Places.{isQueuedAt};
 ghost use Rattle.board.specs.Board.{total, boardOf, task, message, place};
 ghost use Rattle.lent.specs.Links.{messageLink};
 ghost use Rattle.board.specs.Writes.{putFirst, putTask, putMessage, putPlace};
@@ -276,7 +276,7 @@ pub fn queued_at(z: Size, l: &[u8], k: TaskNo, m: MsgNo) -> bool
     if (z.messages as usize) < n {
         return false;
     }
-    says_queued(
+    Place::says_queued(
         z,
         k,
         byte_in(
@@ -284,25 +284,4 @@ pub fn queued_at(z: Size, l: &[u8], k: TaskNo, m: MsgNo) -> bool
             10 * (z.tasks as usize) + 8 * (z.messages as usize) + n + 3,
         ),
     )
-}
-
-// The place byte p says 'queued at task k'. A walk asks it of every message, so the byte is compared and not decoded.
-fn says_queued(z: Size, k: TaskNo, p: u8) -> bool
-    ensures { λ res. ⌜ res ≡ isQueuedAt (k .0) (placeOf z p) ⌝ }
-{
-    let n = k.number();
-    if p as u32 != 64 + n as u32 {
-        return false;
-    }
-    // among more than 64 tasks this byte would name a holder
-    if (p as u16) <= z.tasks {
-        return false;
-    }
-    if n == 0 {
-        return false;
-    }
-    if z.tasks < n {
-        return false;
-    }
-    true
 }

@@ -1,9 +1,9 @@
--- `lent::bytes::says_queued` meets its contract.
+-- `board::places::Place::says_queued` meets its contract.
 use native.Mathlib.Omega.{arith}
-use Rattle.lent.proofs.Fields.{says-not, says-so, says-number}
+use Rattle.board.proofs.Decoding.{says-not, says-so, says-number}
 use borrow.Author.Needs.{needs}
-use Rattle.lent.proofs.bytes.says_queued.Statement.{statement}
-use Rattle.lent.proofs.bytes.says_queued.Tie as tie
+use Rattle.board.proofs.places.Place.says_queued.Statement.{statement}
+use Rattle.board.proofs.places.Place.says_queued.Tie as tie
 
 returns : tie.Need-returns
 returns c =
