@@ -36,37 +36,7 @@ use Rattle.paper.proofs.Rows.{lowest-stop, lowest-on}
 use Rattle.inner.proofs.Rows.{task-row, no-task-row}
 use Rattle.inner.proofs.Steps.{stopped-by, done-by, stops, does, held-goes}
 
--- ---- the fields that send writes
--- x or y by the test that code made
-chosen : {A : Type 0} (a b : ℕ) (x y : A) → a ≡ b → x ≡ cond (eqb a b) x y
-chosen a b x y e = ap (λ (t : Bool). cond t x y) (sym (eq-eqb a b e))
-
-left : {A : Type 0} (a b : ℕ) (x y : A) → a ≢ b → y ≡ cond (eqb a b) x y
-left a b x y n = ap (λ (t : Bool). cond t x y) (sym (ne-eqb a b n))
-
--- 127 gives the sender's own number; n and k are the numbers read
-pub own-prio-given : (p own : ℕ) {n k : ℕ} → n ≡ number p → n ≡ 127 → k ≡ number own → 2 * k + p % 2 ≡ ownPrio p own
-own-prio-given p own en e ek =
-    (λ i. 2 * ek i + p % 2) ∙ chosen (number p) 127 (2 * number own + p % 2) p (sym en ∙ e)
-
--- another number stays
-pub own-prio-left : (p own : ℕ) {n : ℕ} → n ≡ number p → n ≢ 127 → p ≡ ownPrio p own
-own-prio-left p own en h = left (number p) 127 (2 * number own + p % 2) p (λ e. h (en ∙ e))
-
--- no sender: it is c
-pub sender-given : (sptr c : ℕ) {n : ℕ} → sptr ≡ 0 → n ≡ c → n ≡ cond (eqb sptr 0) c sptr
-sender-given sptr c e en = en ∙ chosen sptr 0 c sptr e
-
--- a sender stays
-pub sender-left : (sptr c : ℕ) → sptr ≢ 0 → sptr ≡ cond (eqb sptr 0) c sptr
-sender-left sptr c = left sptr 0 c sptr
-
--- the message with three fields changed
-pub addresses : (u : Message) (own c r : ℕ) {p s : ℕ} {x y v : Message} → p ≡ ownPrio (u .prio) own
-    → s ≡ cond (eqb (u .sptr) 0) c (u .sptr) → x ≡ withPrio u p → y ≡ withRptr x r → v ≡ withSptr y s → v ≡ addressedAs u own c r
-addresses u own c r ep es ex ey ev =
-    ev ∙ (λ i. withSptr ((ey ∙ (λ j. withRptr ((ex ∙ (λ k. withPrio u (ep k))) j) r)) i) (es i))
-
+-- ---- the message that send writes
 -- it is placed so: u and t are the records of the message and of c, v the addressed one
 pub sent-to : (z : Size) (l : List ℕ) (c m r : ℕ) {u v : Message} {t : Task} {d : List ℕ} → u ≡ message (boardOf z l) m
     → t ≡ task (boardOf z l) c → v ≡ addressedAs u (t .prio) c r → d ≡ placeAt z l m v r → d ≡ send z l c m r

@@ -1,13 +1,10 @@
 // Send, resend, forward and return, as far as placing.
 ghost use mathlib.Core.Path.{_≡_};
-ghost use mathlib.Core.Bool.{cond};
 ghost use Prim.Native.Nat.{_≤_};
 ghost use lib.ListN.{length};
-ghost use lib.Dec.{eqb};
 ghost use Rattle.board.specs.Board.{total};
 ghost use Rattle.paper.specs.declared.call.Call.the-variants as calls;
-ghost use Rattle.paper.specs.Effects.{ownPrio};
-ghost use Rattle.stores.specs.Effects.{addressedAs, send};
+ghost use Rattle.stores.specs.Effects.{send};
 ghost use Rattle.stores.specs.Answers.{Runs, Makes};
 ghost use Rattle.stores.specs.Calls.{passing, stepping};
 use crate::place::place;
@@ -16,7 +13,6 @@ use board::numbers::Size;
 use board::numbers::TaskMeant;
 use board::numbers::TaskNo;
 use board::priority::number;
-use board::records::Message;
 use inner::refusals::held;
 use inner::refusals::present_task;
 use lent::bytes::message_at;
@@ -24,35 +20,7 @@ use lent::bytes::task_at;
 use paper::answer::Refusal;
 use stores::Body;
 use stores::Held;
-
-// Priority 127 asks for the sender's own; the queue type stays.
-fn own_prio(p: u8, own: u8) -> u8
-    ensures { λ res. ⌜ res ≡ ownPrio p own ⌝ }
-{
-    if number(p) == 127 {
-        return 2 * number(own) + p % 2;
-    }
-    p
-}
-
-// The sender's name, where none is set.
-fn sender(sptr: u16, c: TaskNo) -> u16
-    ensures { λ res. ⌜ res ≡ cond (eqb sptr 0) (c .0) sptr ⌝ }
-{
-    if sptr == 0 {
-        return c.number();
-    }
-    sptr
-}
-
-// The message u as task c, of PRIO own, sends it to r.
-fn addressed(u: Message, own: u8, c: TaskNo, r: TaskNo) -> Message
-    ensures { λ res. ⌜ res ≡ addressedAs u own (c .0) (r .0) ⌝ }
-{
-    let p = own_prio(u.prio, own);
-    let s = sender(u.sptr, c);
-    u.with_prio(p).with_rptr(r).with_sptr(s)
-}
+use stores::addressed::addressed;
 
 // Task c sends message m to r: it is placed as it is addressed.
 fn send_to(z: Size, l: &mut [u8], c: TaskNo, m: MsgNo, r: TaskNo)

@@ -1,26 +1,12 @@
--- Tests of the code that are a definition's in other words: bytes 1 to 3, and flags.
+-- Tests of the code that are a definition's in other words: a record with TCBB or without, and flags.
 -- Assumes nothing.
 use mathlib.Core.Path.{_≡_, refl, sym, ap, _∙_}
 use mathlib.Core.Bool.{Bool, true, false, not, _&&_, _||_, and-true, and-false, or-false, true≢false}
-use mathlib.Core.List.{List, [], _∷_}
-use Prim.Native.Nat.{ℕ}
-use lib.Dec.{eqb}
-use lib.ListN.{getD, take, drop}
 use Rattle.board.specs.declared.status.Status.{Status}
 use Rattle.board.specs.declared.records.Task.{Task}
 use Rattle.board.specs.Status.{WAIT, IWAT, BIT5, INTQ, MHBS, has, isPresent}
-use Rattle.paper.specs.Rules.{allZero, zeroTask, taskPrio, goodHead, goodTask, goodFlags}
+use Rattle.paper.specs.Rules.{zeroTask, taskPrio, goodHead, goodTask, goodFlags}
 use Rattle.linked.proofs.Tests.{says-zeroTask}
-
--- ---- bytes 1 to 3
--- they are read one by one, as 0 past the end
-pub zeros-read : (l : List ℕ)
-    → eqb (getD l 1 0) 0 && allZero (take 2 (drop 2 l)) ≡ eqb (getD l 1 0) 0 && (eqb (getD l 2 0) 0 && eqb (getD l 3 0) 0)
-zeros-read [] = refl
-zeros-read (x ∷ []) = refl
-zeros-read (x ∷ y ∷ []) = refl
-zeros-read (x ∷ y ∷ u ∷ []) = refl
-zeros-read (x ∷ y ∷ u ∷ v ∷ l) = ap (λ (t : Bool). eqb y 0 && (eqb u 0 && t)) (and-true (eqb v 0))
 
 -- ---- R2: a record with TCBB isn't ten zero bytes, and one without it must be
 pub task-there : (t : Task) → isPresent (t .stat) ≡ true → goodHead (t .stat) (t .prio) ≡ goodTask t

@@ -1,10 +1,15 @@
 // CODE. The check of a board: does it keep R1 to R7, and who runs? Each rule is a function of the lent bytes whose answer is proved to be
 // the definition's (paper, Rules). Each record is looked at a bounded number of times, each queue walked once.
+pub mod records;
+
 ghost use mathlib.Core.Path.{_≡_};
 ghost use Prim.Native.Nat.{_≤_};
 ghost use lib.ListN.{length};
 ghost use Rattle.board.specs.Board.{total, boardOf};
 ghost use Rattle.rules.specs.Checked.{checkedOf, notDue};
+use crate::records::good_tasks;
+use crate::records::rule1;
+use crate::records::rule4;
 use board::numbers::Size;
 use board::numbers::TaskMeant;
 use board::status::Status;
@@ -12,9 +17,6 @@ use lent::bytes::task_at;
 use queue_rules::messages::rule5;
 use queue_rules::tasks::Order;
 use queue_rules::tasks::rule3;
-use record_rules::good_tasks;
-use record_rules::rule1;
-use record_rules::rule4;
 
 // What the check found: a broken rule, or that this task runs.
 pub enum Checked {

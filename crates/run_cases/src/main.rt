@@ -2,13 +2,13 @@
 // PRIO; kind 0 checks the board, kind 254 makes it fresh), and the board. For each it writes a line: refusal number, value, running and
 // delivered, and then each byte of the board that changed, as place=value. So any other maker's answers can be compared with ours as text.
 ghost use Prim.Native.Nat.{_<_};
+use for_c::asked::Asked;
+use for_c::asked::call_of_kind;
+use for_c::pack::refusal_number;
 use libc::STDIN_FILENO;
 use libc::STDOUT_FILENO;
 use paper::answer::Answer;
 use paper::answer::Refusal;
-use station::asked::Asked;
-use station::asked::call_of_kind;
-use station::pack::refusal_number;
 
 fn wide(x: u8) -> u16
     ensures { λ res. ⌜ res < 256 ⌝ }

@@ -7,9 +7,9 @@ use Rattle.paper.specs.declared.answer.Answer.{Answer}
 use Rattle.paper.specs.declared.call.Call.{Call}
 use Rattle.paper.specs.Answers.{handed}
 use Rattle.paper.specs.Outcomes.{Ends, effect}
-use Rattle.station.specs.declared.asked.Asked.{Asked}
-use Rattle.station.specs.declared.asked.Asked.the-variants.{Made, NoCall}
-use Rattle.station.specs.Packed.{packed}
+use Rattle.for_c.specs.declared.asked.Asked.{Asked}
+use Rattle.for_c.specs.declared.asked.Asked.the-variants.{Made, NoCall}
+use Rattle.for_c.specs.Packed.{packed}
 use Rattle.station.specs.Called.{wordFor, leftFor}
 
 -- x is the call that was asked for

@@ -7,9 +7,9 @@ use Prim.Native.Nat.{ℕ}
 use Rattle.board.specs.Numbers.{small}
 use Rattle.paper.specs.Answers.{handed}
 use Rattle.paper.specs.Outcomes.{effect}
-use Rattle.station.specs.declared.asked.Asked.{Asked}
-use Rattle.station.specs.declared.asked.Asked.the-variants.{Made, NoCall}
-use Rattle.station.specs.Packed.{packed}
+use Rattle.for_c.specs.declared.asked.Asked.{Asked}
+use Rattle.for_c.specs.declared.asked.Asked.the-variants.{Made, NoCall}
+use Rattle.for_c.specs.Packed.{packed}
 
 abbrev pub wordFor : List ℕ → Asked → ℕ
 wordFor l (Made call) = packed (handed (effect small l call .answer))

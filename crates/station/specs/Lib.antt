@@ -1,3 +1,1 @@
-pub mod Packed
-pub mod Asked
 pub mod Called

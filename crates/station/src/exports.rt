@@ -3,12 +3,12 @@ ghost use mathlib.Core.Path.{_≡_};
 ghost use Rattle.board.specs.Numbers.{small};
 ghost use Rattle.paper.specs.Answers.{handed};
 ghost use Rattle.paper.specs.Outcomes.{Outcome, fresh, check};
-ghost use Rattle.station.specs.Packed.{packed};
-ghost use Rattle.station.specs.Asked.{askedOf};
+ghost use Rattle.for_c.specs.Packed.{packed};
+ghost use Rattle.for_c.specs.Asked.{askedOf};
 ghost use Rattle.station.specs.Called.{wordFor, leftFor};
-use crate::asked::Asked;
-use crate::asked::call_of_kind;
-use crate::pack::pack;
+use for_c::asked::Asked;
+use for_c::asked::call_of_kind;
+use for_c::pack::pack;
 
 #[no_mangle]
 pub extern "C" fn station_fresh(board: &mut [u8]) -> u64

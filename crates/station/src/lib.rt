@@ -1,8 +1,6 @@
 // PROMISE. The station's board for its callers: making a fresh board, checking one, and the nineteen calls, on lent bytes of any length and
 // content. Read for the contracts: each says the answer and every byte afterwards by one definition of document 01 (paper, Outcomes).
-pub mod asked;
 pub mod exports;
-pub mod pack;
 
 ghost use mathlib.Core.Path.{_≡_};
 ghost use Rattle.board.specs.Numbers.{small};

@@ -1,1 +1,2 @@
 pub mod Seeks
+mod Addressing

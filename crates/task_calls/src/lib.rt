@@ -21,7 +21,7 @@ use lent::bytes::first_task;
 use lent::bytes::put_task;
 use lent::bytes::task_at;
 use paper::answer::Refusal;
-use record_rules::task_prio;
+use record_rules::tasks::task_prio;
 use stores::Body;
 use task_queue::into_order;
 use task_queue::out_of_order;

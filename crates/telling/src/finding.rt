@@ -10,18 +10,18 @@ ghost use Rattle.telling.specs.Findings.{findingOf, brokenRule};
 use crate::print::decimal;
 use crate::print::text;
 use board::numbers::Size;
+use for_c::pack::refusal_number;
 use paper::answer::Answer;
 use paper::answer::Refusal;
 use queue_rules::messages::rule5;
 use queue_rules::tasks::Order;
 use queue_rules::tasks::rule3;
-use record_rules::rule1;
-use record_rules::rule2;
-use record_rules::rule4;
-use record_rules::rule6;
+use rules::records::rule1;
+use rules::records::rule2;
+use rules::records::rule4;
+use rules::records::rule6;
 use rules::rule7;
 use station::check;
-use station::pack::refusal_number;
 
 // The board passes and this task runs, 0 for none; or it is refused.
 pub enum Finding {
