@@ -35,6 +35,12 @@ taskMeant-task z w k e =
     let s = cond-second (outside (z .tasks) w) NoTask (Task (taskNo w)) (Task k) e (no-task k) in
     (s .0, let f : Task (taskNo w) ≡ Task k = s .1 in cc)
 
+-- so the task is of the board
+pub taskMeant-there : (z : Size) (w : ℕ) (k : TaskNo) → taskMeant z w ≡ Task k → (outside (z .tasks) (k .0) ≡ false) × (k .0 ≡ w)
+taskMeant-there z w k e =
+    let t = taskMeant-task z w k e in
+    (ap (λ (j : TaskNo). outside (z .tasks) (j .0)) (t .1) ∙ t .0, ap (λ (j : TaskNo). j .0) (t .1))
+
 -- a word that means none is outside
 pub taskMeant-none : (z : Size) (w : ℕ) → taskMeant z w ≡ NoTask → outside (z .tasks) w ≡ true
 taskMeant-none z w e = cond-first (outside (z .tasks) w) NoTask (Task (taskNo w)) NoTask e (λ f. no-task (taskNo w) (sym f))
@@ -50,6 +56,13 @@ messageMeant-message z w m e =
     let x : MessageMeant = Message (record { 0 = w }) in
     let s = cond-second (outside (z .messages) w) NoMessage x (Message m) e (no-message m) in
     (s .0, let f : x ≡ Message m = s .1 in cc)
+
+-- so the message is of the board
+pub messageMeant-there : (z : Size) (w : ℕ) (m : MsgNo) → messageMeant z w ≡ Message m
+    → (outside (z .messages) (m .0) ≡ false) × (m .0 ≡ w)
+messageMeant-there z w m e =
+    let t = messageMeant-message z w m e in
+    (ap (λ (j : MsgNo). outside (z .messages) (j .0)) (t .1) ∙ t .0, ap (λ (j : MsgNo). j .0) (t .1))
 
 -- a word that means none is outside
 pub messageMeant-none : (z : Size) (w : ℕ) → messageMeant z w ≡ NoMessage → outside (z .messages) w ≡ true

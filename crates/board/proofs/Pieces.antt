@@ -30,6 +30,10 @@ outside-within n k e =
     let h : k ≢ 0 = eqb-false k 0 (b .0) in
     (omega arith, ltb-false n k (b .1))
 
+-- so it isn't 0
+pub not-none : (n k : ℕ) → outside n k ≡ false → k ≡ 0 → ⊥
+not-none n k o e = let b = outside-within n k o in omega (arith, b .0)
+
 -- a number from 1 to the last isn't outside
 pub within-outside : (n k : ℕ) → 1 ≤ k → k ≤ n → outside n k ≡ false
 within-outside n k h l = ap₂ _||_ (ne-eqb k 0 (λ (e : k ≡ 0). omega arith)) (le-ltb n k l)

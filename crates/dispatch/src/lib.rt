@@ -13,9 +13,9 @@ use board::numbers::TaskNo;
 use board::status::Status;
 use changes::clear_bit;
 use lent::bytes::task_at;
+use order_rules::who::running;
 use paper::answer::Answer;
 use paper::answer::Refusal;
-use queue_rules::who::running;
 use stores::Body;
 use take_calls::take_first;
 

@@ -2,6 +2,5 @@ pub mod Visits
 pub mod Counting
 pub mod Lists
 pub mod Turns
-mod OrderTurns
 mod QueueTurns
 mod Tests

@@ -28,8 +28,8 @@ use Rattle.board.proofs.Codec.{place-free, place-held, place-receiver, place-no
 use Rattle.board.proofs.Pieces.{outside-within}
 use Rattle.paper.specs.Rules.{isThere, present, nextTask, nextMessage, taskNumber, messageNumber, rule3, rule5At}
 use Rattle.linked.proofs.Listings.{which-nth}
-use Rattle.queue_rules.specs.declared.messages.Walked.{Walked}
-use Rattle.queue_rules.specs.declared.messages.Walked.the-variants.{Seen, Broken}
+use Rattle.queue_rules.specs.declared.Walked.{Walked}
+use Rattle.queue_rules.specs.declared.Walked.the-variants.{Seen, Broken}
 use Rattle.queue_rules.specs.Walks.{visited, counted, queued, queuedAt, added, walked}
 use Rattle.queue_rules.proofs.Visits.{every, orderly, visited-whole}
 use Rattle.queue_rules.proofs.Counting.{sumTo, sum-zero, sum-once, sum-tight, sums-equal, counted-which, counts-add}

@@ -16,17 +16,17 @@ use Rattle.board.specs.declared.places.Place.the-variants.{Free}
 use Rattle.board.specs.Numbers.{outside, taskMeant, messageMeant}
 use Rattle.board.specs.Places.{isQueuedAt}
 use Rattle.board.specs.Board.{Board, boardOf, task}
-use Rattle.board.proofs.Pieces.{outside-within, within-outside, nth-outside}
-use Rattle.board.proofs.Meant.{messageMeant-message, taskMeant-none}
+use Rattle.board.proofs.Pieces.{not-none, within-outside, nth-outside}
+use Rattle.board.proofs.Meant.{taskMeant-none}
 use Rattle.board.proofs.Codec.{length-places}
 use Rattle.paper.specs.Rules.{nextMessage, messageNumber}
 use Rattle.lent.specs.declared.bytes.MessageLink.{MessageLink}
 use Rattle.lent.specs.declared.bytes.MessageLink.the-variants as links
 use Rattle.lent.specs.Links.{onward, messageLink}
-use Rattle.queue_rules.specs.declared.messages.MessageTurn.{MessageTurn}
-use Rattle.queue_rules.specs.declared.messages.MessageTurn.the-variants as ms
-use Rattle.queue_rules.specs.declared.messages.Walked.{Walked}
-use Rattle.queue_rules.specs.declared.messages.Walked.the-variants.{Seen, Broken}
+use Rattle.queue_rules.specs.declared.MessageTurn.{MessageTurn}
+use Rattle.queue_rules.specs.declared.MessageTurn.the-variants as ms
+use Rattle.queue_rules.specs.declared.Walked.{Walked}
+use Rattle.queue_rules.specs.declared.Walked.the-variants.{Seen, Broken}
 use Rattle.queue_rules.specs.Walks.{queuedAt, onMessage, messageTurned, queueVisited}
 use Rattle.queue_rules.proofs.Turns.{went-on}
 use Rattle.queue_rules.proofs.Visits.{visited-end, visited-out, visited-stray, went-visited}
@@ -35,17 +35,6 @@ use Rattle.queue_rules.proofs.Visits.{visited-end, visited-out, visited
 pub nothing-there : (z : Size) (l : List ℕ) (k m : ℕ) → outside (z .messages) m ≡ true → queuedAt (boardOf z l) k m ≡ false
 nothing-there z l k m o =
     ap (isQueuedAt k) (nth-outside Free (boardOf z l .places) m (ap (λ (n : ℕ). outside n m) (length-places z l) ∙ o))
-
--- a number of the board isn't 0
-not-none : (n k : ℕ) → outside n k ≡ false → k ≡ 0 → ⊥
-not-none n k o e = let b = outside-within n k o in omega (arith, b .0)
-
--- what a word means is of the board, and is the word
-pub message-there : (z : Size) (w : ℕ) (m : MsgNo) → messageMeant z w ≡ which.Message m
-    → (outside (z .messages) (m .0) ≡ false) × (m .0 ≡ w)
-message-there z w m e =
-    let t = messageMeant-message z w m e in
-    (ap (λ (j : MsgNo). outside (z .messages) (j .0)) (t .1) ∙ t .0, ap (λ (j : MsgNo). j .0) (t .1))
 
 -- a number that a loop counts means a task
 pub counted-there : (z : Size) (k : ℕ) → k < z .tasks → taskMeant z (k + 1) ≡ who.NoTask → ⊥

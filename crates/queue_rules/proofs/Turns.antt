@@ -13,8 +13,8 @@ use Rattle.links.proofs.Chains.{walk-step, walk-end}
 use Rattle.board.specs.declared.numbers.Size.{Size}
 use Rattle.board.specs.Board.{Board, task}
 use Rattle.paper.specs.Rules.{nextMessage, messageNumber}
-use Rattle.queue_rules.specs.declared.messages.Walked.{Walked}
-use Rattle.queue_rules.specs.declared.messages.Walked.the-variants.{Seen, Broken}
+use Rattle.queue_rules.specs.declared.Walked.{Walked}
+use Rattle.queue_rules.specs.declared.Walked.the-variants.{Seen, Broken}
 use Rattle.queue_rules.specs.Walks.{went, counted, queuedAt, queueWalked, added, walked}
 use Rattle.queue_rules.proofs.Visits.{visited-bound}
 use Rattle.queue_rules.proofs.Counting.{counted-turn, counted-bound}

@@ -10,8 +10,8 @@ use lib.Dec.{eqb, leb}
 use borrow.Author.Tests.{eq-eqb, ne-eqb, eqb-true, eqb-false}
 use Rattle.links.specs.Queue.{walk, ends, rising}
 use Rattle.links.proofs.Chains.{walk-length}
-use Rattle.queue_rules.specs.declared.messages.Walked.{Walked}
-use Rattle.queue_rules.specs.declared.messages.Walked.the-variants.{Seen, Broken}
+use Rattle.queue_rules.specs.declared.Walked.{Walked}
+use Rattle.queue_rules.specs.declared.Walked.the-variants.{Seen, Broken}
 use Rattle.queue_rules.specs.Walks.{went, visited}
 
 module _ (next number : ℕ → ℕ) (good : ℕ → Bool) where

@@ -1,4 +1,4 @@
--- The walk of a queue as code makes it, counting as it goes. The contracts of src/messages.rt cite this file; that it says the same as R3 and
+-- The walk of a queue as code makes it, counting as it goes. The contracts of src/lib.rt cite this file; that it says the same as R3 and
 -- R5 is proved (proofs/Lists), so no reader needs to believe it.
 --   went next number good .. x low     one link followed, where good says which records belong to the queue
 --   visited next number good n x low s a walk of at most n links from x that saw s before and met the priority number low last
@@ -20,10 +20,10 @@ use Rattle.board.specs.Numbers.{messageMeant}
 use Rattle.board.specs.Places.{isQueuedAt, isQueued}
 use Rattle.board.specs.Board.{Board, task, place}
 use Rattle.paper.specs.Rules.{nextMessage, messageNumber}
-use Rattle.queue_rules.specs.declared.messages.MessageTurn.{MessageTurn}
-use Rattle.queue_rules.specs.declared.messages.MessageTurn.the-variants.{Next, End, Stray}
-use Rattle.queue_rules.specs.declared.messages.Walked.{Walked}
-use Rattle.queue_rules.specs.declared.messages.Walked.the-variants.{Seen, Broken}
+use Rattle.queue_rules.specs.declared.MessageTurn.{MessageTurn}
+use Rattle.queue_rules.specs.declared.MessageTurn.the-variants.{Next, End, Stray}
+use Rattle.queue_rules.specs.declared.Walked.{Walked}
+use Rattle.queue_rules.specs.declared.Walked.the-variants.{Seen, Broken}
 
 -- to the end, on, or astray
 abbrev pub went : {A : Type 0} → (ℕ → ℕ) → (ℕ → ℕ) → (ℕ → Bool) → (ℕ → ℕ → A) → A → A → ℕ → ℕ → A

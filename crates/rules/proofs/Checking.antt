@@ -17,9 +17,9 @@ use Rattle.board.specs.Board.{Board, boardOf, task}
 use Rattle.board.proofs.Pieces.{nth-outside}
 use Rattle.board.proofs.Codec.{length-tasks}
 use Rattle.paper.specs.Rules.{running, rule1, rule2At, rule3, rule4At, rule5At, rule6At, rule7}
-use Rattle.queue_rules.specs.declared.tasks.Order.{Order}
-use Rattle.queue_rules.specs.declared.tasks.Order.the-variants as order
-use Rattle.queue_rules.specs.Order.{listed}
+use Rattle.order_rules.specs.declared.tasks.Order.{Order}
+use Rattle.order_rules.specs.declared.tasks.Order.the-variants as order
+use Rattle.order_rules.specs.Order.{listed}
 use Rattle.rules.specs.declared.Checked.the-variants.{Broken, Passes}
 use Rattle.rules.specs.Checked.{notDue, checkedOf}
 

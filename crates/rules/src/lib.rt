@@ -14,9 +14,9 @@ use board::numbers::Size;
 use board::numbers::TaskMeant;
 use board::status::Status;
 use lent::bytes::task_at;
-use queue_rules::messages::rule5;
-use queue_rules::tasks::Order;
-use queue_rules::tasks::rule3;
+use order_rules::tasks::Order;
+use order_rules::tasks::rule3;
+use queue_rules::rule5;
 
 // What the check found: a broken rule, or that this task runs.
 pub enum Checked {

@@ -11,7 +11,7 @@ use crate::print::decimal;
 use crate::print::text;
 use board::numbers::Size;
 use lent::by_word::place_meant;
-use queue_rules::tasks::count_present;
+use order_rules::tasks::count_present;
 
 // Block m lies at a place whose byte is from low to high.
 fn lies(l: &[u8], m: u16, low: u8, high: u8) -> bool

@@ -29,4 +29,6 @@ returns-5 c =
     ) (sym (not-false (t .before .args .there) (t .if1 .left)))
 
 pub good-queued-spec : {M : Type 1} → statement M
-good-queued-spec = tie.close (tie.spec returns (λ c κs. search needs) returns-2 (λ c κs. search needs) returns-3 returns-4 returns-5)
+good-queued-spec =
+    tie.close
+    (tie.spec returns (λ c κs. search needs) returns-2 (λ c κs. search needs) returns-3 returns-4 returns-5)

@@ -1,0 +1,46 @@
+-- R3 as code tests it: one walk of the task queue that counts, and meets the running task. The contracts of src/tasks.rt cite this file.
+--   taskTurned z b k low   one link of the task queue; one that leads beyond the board leads astray
+--   orderVisited b n x ..  the walk of the task queue
+--   orderFrom z b x        the walk from x on, with the first ready task that it meets
+--   listed z b             R3's answer: the task queue is in order and this task runs, or it is broken
+-- Assumes nothing.
+use mathlib.Core.Bool.{cond}
+use Prim.Native.Nat.{ℕ}
+use Rattle.links.specs.Queue.{walk, firstWith}
+use Rattle.board.specs.declared.numbers.Size.{Size}
+use Rattle.board.specs.declared.numbers.TaskMeant.{TaskMeant}
+use Rattle.board.specs.declared.numbers.TaskMeant.the-variants.{Task, NoTask}
+use Rattle.board.specs.Numbers.{taskMeant}
+use Rattle.board.specs.Board.{Board}
+use Rattle.paper.specs.Rules.{present, ready, nextTask, taskNumber, running, rule3}
+use Rattle.queue_rules.specs.declared.Walked.{Walked}
+use Rattle.queue_rules.specs.declared.Walked.the-variants as walks
+use Rattle.order_rules.specs.declared.tasks.TaskTurn.{TaskTurn}
+use Rattle.order_rules.specs.declared.tasks.TaskTurn.the-variants.{Next, End, Stray}
+use Rattle.order_rules.specs.declared.tasks.OrderWalked.{OrderWalked}
+use Rattle.order_rules.specs.declared.tasks.OrderWalked.the-variants.{Seen, Broken}
+use Rattle.order_rules.specs.declared.tasks.Order.{Order}
+use Rattle.order_rules.specs.declared.tasks.Order.the-variants as order
+use Rattle.queue_rules.specs.Walks.{went, visited}
+
+abbrev pub onTask : TaskMeant → ℕ → TaskTurn
+onTask (Task k) p = Next k p
+onTask NoTask p = Stray
+
+abbrev pub taskTurned : Size → Board → ℕ → ℕ → TaskTurn
+taskTurned z b = went (nextTask b) (taskNumber b) (present b) (λ y p. onTask (taskMeant z y) p) End Stray
+
+abbrev pub orderVisited : Board → ℕ → ℕ → ℕ → ℕ → Walked
+orderVisited b = visited (nextTask b) (taskNumber b) (present b)
+
+-- what a walk saw, and c runs
+abbrev pub withRunner : Walked → TaskMeant → OrderWalked
+withRunner (walks.Seen n) c = Seen n c
+withRunner walks.Broken c = Broken
+
+abbrev pub orderFrom : Size → Board → ℕ → OrderWalked
+orderFrom z b x =
+    withRunner (orderVisited b (z .messages) x 0 0) (taskMeant z (firstWith (ready b) (walk (nextTask b) (z .messages) x)))
+
+abbrev pub listed : Size → Board → Order
+listed z b = cond (rule3 z b) (order.Listed (taskMeant z (running z b))) order.Broken
