@@ -1,1 +1,1 @@
-mod OrderTurns
+pub mod OrderTurns

@@ -21,7 +21,7 @@ use Rattle.board.specs.Board.{Board, boardOf, task}
 use Rattle.board.proofs.Pieces.{not-none, nth-outside}
 use Rattle.board.proofs.Meant.{taskMeant-task}
 use Rattle.board.proofs.Codec.{length-tasks}
-use Rattle.paper.specs.Rules.{isThere, present, ready, nextTask, taskNumber, running, rule3}
+use Rattle.paper.specs.Rules.{isThere, present, ready, nextTask, taskNumber, running}
 use Rattle.queue_rules.specs.declared.Walked.{Walked}
 use Rattle.queue_rules.specs.declared.Walked.the-variants as walks
 use Rattle.order_rules.specs.declared.tasks.OrderWalked.{OrderWalked}
@@ -29,9 +29,9 @@ use Rattle.order_rules.specs.declared.tasks.OrderWalked.the-variants.{Se
 use Rattle.order_rules.specs.declared.tasks.Order.the-variants as order
 use Rattle.order_rules.specs.declared.tasks.TaskTurn.{TaskTurn}
 use Rattle.order_rules.specs.declared.tasks.TaskTurn.the-variants as ts
-use Rattle.order_rules.specs.Order.{onTask, taskTurned, orderVisited, withRunner, orderFrom, listed}
-use Rattle.queue_rules.specs.Walks.{counted}
-use Rattle.queue_rules.proofs.Lists.{saw, rule3-is}
+use Rattle.order_rules.specs.Order.{onTask, taskTurned, orderVisited, withRunner, orderFrom, listedBy, listed}
+use Rattle.queue_rules.specs.Walks.{counted, saw}
+use Rattle.queue_rules.proofs.Lists.{rule3-is}
 use Rattle.queue_rules.proofs.Turns.{first-none, first-out, first-found, first-behind}
 use Rattle.queue_rules.proofs.Visits.{visited-end, visited-out, visited-stray, went-visited}
 
@@ -242,43 +242,30 @@ module _ (z : Size) (l : List ℕ) where
       (sym (visited-stray (nextTask b) (taskNumber b) (present b) (z .messages) x 0 0 h (nobody-there z l x o)))
 
 -- ---- R3
-seen-parts : (v : Walked) (r c : TaskMeant) (n : ℕ) → withRunner v r ≡ Seen n c → (v ≡ walks.Seen n) × (c ≡ r)
-seen-parts (walks.Seen m) r c n e = (let f : Seen m r ≡ Seen n c = e in cc, let f : Seen m r ≡ Seen n c = e in cc)
-seen-parts walks.Broken r c n e = let f : Broken ≡ Seen n c = e in let g : _≡_ {A = ℕ} 0 1 = cc in absurd (omega arith)
+-- a walk that saw n, where p are present
+module _ (p n : ℕ) (c : TaskMeant) (w : OrderWalked) (e : Seen n c ≡ w) where
+  pub listed-so : n ≡ p → order.Listed c ≡ listedBy p w
+  listed-so h = ap (λ (t : Bool). cond t (order.Listed c) order.Broken) (sym (eq-eqb n p h)) ∙ ap (listedBy p) e
 
-broken-part : (v : Walked) (r : TaskMeant) → withRunner v r ≡ Broken → v ≡ walks.Broken
-broken-part (walks.Seen m) r e = let f : Seen m r ≡ Broken = e in let g : _≡_ {A = ℕ} 0 1 = cc in absurd (omega arith)
-broken-part walks.Broken r e = refl
+  pub listed-not : (n ≡ p → ⊥) → order.Broken ≡ listedBy p w
+  listed-not h = ap (λ (t : Bool). cond t (order.Listed c) order.Broken) (sym (ne-eqb n p h)) ∙ ap (listedBy p) e
 
-module _ (z : Size) (l : List ℕ) (w : OrderWalked) (e : w ≡ orderFrom z (boardOf z l) (boardOf z l .first)) where
+module _ (z : Size) (l : List ℕ) where
   abbrev board : Board
   board = boardOf z l
 
   abbrev runner : TaskMeant
   runner = taskMeant z (running z board)
 
-  counts : (v : Walked) → orderVisited board (z .messages) (board .first) 0 0 ≡ v
-      → saw v (counted (present board) (z .tasks)) ≡ rule3 z board
-  counts v f =
-      ap (λ (x : Walked). saw x (counted (present board) (z .tasks))) (sym f) ∙ rule3-is z board (length-tasks z l)
+  abbrev seen : Walked
+  seen = orderVisited board (z .messages) (board .first) 0 0
 
-  -- the walk is broken
-  pub order-broken : w ≡ Broken → order.Broken ≡ listed z board
-  order-broken f =
-      ap (λ (t : Bool). cond t (order.Listed runner) order.Broken)
-      (counts walks.Broken (broken-part (orderVisited board (z .messages) (board .first) 0 0) runner (sym e ∙ f)))
-
-  -- it saw n tasks, and p are present
-  module _ (n p : ℕ) (c : TaskMeant) (f : w ≡ Seen n c) (g : p ≡ counted (present board) (z .tasks)) where
-    rule3-told : eqb n p ≡ rule3 z board
-    rule3-told =
-        ap (eqb n) g
-        ∙ counts (walks.Seen n) (seen-parts (orderVisited board (z .messages) (board .first) 0 0) runner c n (sym e ∙ f) .0)
-
-    pub order-listed : n ≡ p → order.Listed c ≡ listed z board
-    order-listed h =
-        ap order.Listed (seen-parts (orderVisited board (z .messages) (board .first) 0 0) runner c n (sym e ∙ f) .1)
-        ∙ ap (λ (t : Bool). cond t (order.Listed runner) order.Broken) (sym (eq-eqb n p h) ∙ rule3-told)
-
-    pub order-missed : (n ≡ p → ⊥) → order.Broken ≡ listed z board
-    order-missed h = ap (λ (t : Bool). cond t (order.Listed runner) order.Broken) (sym (ne-eqb n p h) ∙ rule3-told)
+  -- it saw as many as are present, p: the task queue lists them all
+  pub order-counted : (p : ℕ) → p ≡ counted (present board) (z .tasks)
+      → listedBy p (orderFrom z board (board .first)) ≡ listed z board
+  order-counted p g =
+      told seen ∙ ap (λ (t : Bool). cond t (order.Listed runner) order.Broken) (ap (saw seen) g ∙ rule3-is z board (length-tasks z l))
+    where
+      told : (v : Walked) → listedBy p (withRunner v runner) ≡ cond (saw v p) (order.Listed runner) order.Broken
+      told (walks.Seen n) = refl
+      told walks.Broken = refl

@@ -2,10 +2,12 @@
 --   taskTurned z b k low   one link of the task queue; one that leads beyond the board leads astray
 --   orderVisited b n x ..  the walk of the task queue
 --   orderFrom z b x        the walk from x on, with the first ready task that it meets
+--   listedBy p w           what a walk says where p tasks are present: all are listed and this task runs, or it is broken
 --   listed z b             R3's answer: the task queue is in order and this task runs, or it is broken
 -- Assumes nothing.
 use mathlib.Core.Bool.{cond}
 use Prim.Native.Nat.{ℕ}
+use lib.Dec.{eqb}
 use Rattle.links.specs.Queue.{walk, firstWith}
 use Rattle.board.specs.declared.numbers.Size.{Size}
 use Rattle.board.specs.declared.numbers.TaskMeant.{TaskMeant}
@@ -41,6 +43,10 @@ withRunner walks.Broken c = Broken
 abbrev pub orderFrom : Size → Board → ℕ → OrderWalked
 orderFrom z b x =
     withRunner (orderVisited b (z .messages) x 0 0) (taskMeant z (firstWith (ready b) (walk (nextTask b) (z .messages) x)))
+
+abbrev pub listedBy : ℕ → OrderWalked → Order
+listedBy p (Seen n c) = cond (eqb n p) (order.Listed c) order.Broken
+listedBy p Broken = order.Broken
 
 abbrev pub listed : Size → Board → Order
 listed z b = cond (rule3 z b) (order.Listed (taskMeant z (running z b))) order.Broken

@@ -8,7 +8,7 @@ ghost use Rattle.board.specs.Numbers.{outside};
 ghost use Rattle.board.specs.Board.{total, boardOf};
 ghost use Rattle.paper.specs.Rules.{present};
 ghost use Rattle.queue_rules.specs.Walks.{counted};
-ghost use Rattle.order_rules.specs.Order.{taskTurned, orderVisited, withRunner, orderFrom, listed};
+ghost use Rattle.order_rules.specs.Order.{taskTurned, orderVisited, withRunner, orderFrom, listedBy};
 use board::numbers::Size;
 use board::numbers::TaskMeant;
 use board::numbers::TaskNo;
@@ -165,15 +165,16 @@ pub fn count_present(z: Size, l: &[u8]) -> u16
     n
 }
 
-pub fn rule3(z: Size, l: &[u8]) -> Order
+// R3, where so many tasks are present: the walk saw as many.
+pub fn rule3(z: Size, l: &[u8], present: u16) -> Order
     requires { ⌜ total z ≤ length (now l) ⌝ }
-    ensures { λ res. ⌜ res ≡ listed z (boardOf z (now (l .entry))) ⌝ }
+    ensures { λ res. ⌜ res ≡ listedBy present (orderFrom z (boardOf z (now (l .entry))) (boardOf z (now (l .entry)) .first)) ⌝ }
 {
     let walked = walk_tasks(z, l);
     let OrderWalked::Seen { n: seen, c: c } = walked else {
         return Order::Broken;
     };
-    if seen == count_present(z, l) as u32 {
+    if seen == present as u32 {
         return Order::Listed(c);
     }
     Order::Broken

@@ -1,12 +1,11 @@
 -- What the functions of sends answer and leave, in plain variables: what send writes into a message, a message passed on as it
 -- is, and the calls that place.
 -- Assumes nothing.
-use mathlib.Core.Path.{_≡_, refl, sym, ap, _∙_, subst}
+use mathlib.Core.Path.{_≡_, refl, sym, _∙_, subst}
 use mathlib.Core.Logic.{_≢_}
-use mathlib.Core.Bool.{Bool, true, cond}
+use mathlib.Core.Bool.{true}
 use mathlib.Core.List.{List, [], _∷_}
-use Prim.Native.Nat.{ℕ, _+_, _*_, _%_}
-use lib.Dec.{eqb}
+use Prim.Native.Nat.{ℕ}
 use borrow.Author.Tests.{eq-eqb, ne-eqb}
 use Rattle.board.specs.declared.numbers.Size.{Size}
 use Rattle.board.specs.declared.numbers.TaskNo.{TaskNo}
@@ -17,13 +16,11 @@ use Rattle.board.specs.declared.records.Task.{Task}
 use Rattle.board.specs.declared.records.Message.{Message}
 use Rattle.board.specs.Numbers.{taskNo}
 use Rattle.board.specs.Status.{number}
-use Rattle.board.specs.Records.{withPrio, withRptr, withSptr}
 use Rattle.board.specs.Board.{Board, boardOf, task, message}
 use Rattle.paper.specs.declared.call.Call.{Call}
 use Rattle.paper.specs.declared.call.Call.the-variants.{Send}
 use Rattle.paper.specs.declared.answer.Refusal.the-variants.{NoSuchTask, BadPriority}
 use Rattle.paper.specs.Rules.{running}
-use Rattle.paper.specs.Effects.{ownPrio}
 use Rattle.paper.specs.Refusals.{no3, no4, no5, no6, no7, ownRow, lowest}
 use Rattle.stores.specs.declared.Held.{Held}
 use Rattle.stores.specs.declared.Held.the-variants as held

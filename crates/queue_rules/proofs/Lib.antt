@@ -3,4 +3,3 @@ pub mod Counting
 pub mod Lists
 pub mod Turns
 mod QueueTurns
-mod Tests

@@ -24,13 +24,12 @@ use Rattle.board.specs.Numbers.{outside}
 use Rattle.board.specs.Records.{noTask}
 use Rattle.board.specs.Places.{placeOf, placeIn, isQueuedAt, isQueued}
 use Rattle.board.specs.Board.{Board, boardOf, placeArea, pieces, task}
-use Rattle.board.proofs.Codec.{place-free, place-held, place-receiver, place-nowhere}
+use Rattle.board.proofs.Codec.{length-places, place-free, place-held, place-receiver, place-nowhere}
 use Rattle.board.proofs.Pieces.{outside-within}
 use Rattle.paper.specs.Rules.{isThere, present, nextTask, nextMessage, taskNumber, messageNumber, rule3, rule5At}
 use Rattle.linked.proofs.Listings.{which-nth}
-use Rattle.queue_rules.specs.declared.Walked.{Walked}
 use Rattle.queue_rules.specs.declared.Walked.the-variants.{Seen, Broken}
-use Rattle.queue_rules.specs.Walks.{visited, counted, queued, queuedAt, added, walked}
+use Rattle.queue_rules.specs.Walks.{visited, counted, queued, queuedAt, added, walked, saw}
 use Rattle.queue_rules.proofs.Visits.{every, orderly, visited-whole}
 use Rattle.queue_rules.proofs.Counting.{sumTo, sum-zero, sum-once, sum-tight, sums-equal, counted-which, counts-add}
 
@@ -40,11 +39,6 @@ pub alike : (s t : Bool) → (s ≡ true → t ≡ true) → (t ≡ true → s �
 alike true t f g = sym (f refl)
 alike false true f g = g refl
 alike false false f g = refl
-
--- a walk that saw m
-abbrev pub saw : Walked → ℕ → Bool
-saw (Seen n) m = eqb n m
-saw Broken m = false
 
 saw-cond : (t : Bool) (n m : ℕ) → saw (cond t (Seen n) Broken) m ≡ t && eqb n m
 saw-cond true n m = refl
@@ -139,7 +133,7 @@ mapped-at P f h (x ∷ l) zero j none = h x
 mapped-at P f h (x ∷ l) (suc i) j none = mapped-at P f h l i (omega arith) none
 
 -- so it is with every place that is read from bytes
-pub places-named : (z : Size) (l : List ℕ) (i : ℕ) → i < length (boardOf z l .places) → (none : Place)
+places-named : (z : Size) (l : List ℕ) (i : ℕ) → i < length (boardOf z l .places) → (none : Place)
     → NamesTask z (getD (boardOf z l .places) i none)
 places-named z l = mapped-at (NamesTask z) (placeIn z) (λ p. place-named z (getD p 0 0)) (pieces (placeArea z) l)
 
@@ -208,7 +202,7 @@ module _ (z : Size) (b : Board) where
       (eq-eqb _ _ (sums-equal (λ k. length (walkOf k)) (λ k. length (placedAt k)) n (λ k i j. eqb-true _ _ (at k i j .1))))
 
   -- the walks of all queues together saw as many as are queued
-  pub rule5-is : length (b .places) ≡ z .messages
+  rule5-is : length (b .places) ≡ z .messages
       → ((i : ℕ) → i < length (b .places) → (none : Place) → NamesTask z (getD (b .places) i none))
       → saw (walked z b (z .tasks)) (counted (queued b) (z .messages)) ≡ each (rule5At z b) (z .tasks)
   rule5-is e named =
@@ -219,3 +213,9 @@ module _ (z : Size) (b : Board) where
       ∙ sym (counts-add isQueuedAt isQueued (NamesTask z) (z .tasks) 1 (named-once z) (b .places) named))
       ∙ saw-cond (each fine (z .tasks)) w p
       ∙ alike (each fine (z .tasks) && eqb w p) (each (rule5At z b) (z .tasks)) (sum-each (z .tasks)) (each-sum (z .tasks))
+
+-- so of any bytes, where n is how many are queued
+pub rule5-counted : (z : Size) (l : List ℕ) (n : ℕ) → n ≡ counted (queued (boardOf z l)) (z .messages)
+    → saw (walked z (boardOf z l) (z .tasks)) n ≡ each (rule5At z (boardOf z l)) (z .tasks)
+rule5-counted z l n e =
+    ap (saw (walked z (boardOf z l) (z .tasks))) e ∙ rule5-is z (boardOf z l) (length-places z l) (places-named z l)

@@ -6,7 +6,6 @@ use mathlib.Core.List.{List}
 use Prim.Native.Nat.{ℕ, _+_, _-_, _≤_, _<_}
 use native.Mathlib.Omega.{arith}
 use lib.Dec.{eqb, leb}
-use Rattle.links.specs.Queue.{walk}
 use Rattle.board.specs.declared.numbers.Size.{Size}
 use Rattle.board.specs.declared.numbers.MsgNo.{MsgNo}
 use Rattle.board.specs.declared.numbers.TaskMeant.the-variants as who
@@ -15,7 +14,7 @@ use Rattle.board.specs.declared.numbers.MessageMeant.the-variants as which
 use Rattle.board.specs.declared.places.Place.the-variants.{Free}
 use Rattle.board.specs.Numbers.{outside, taskMeant, messageMeant}
 use Rattle.board.specs.Places.{isQueuedAt}
-use Rattle.board.specs.Board.{Board, boardOf, task}
+use Rattle.board.specs.Board.{Board, boardOf}
 use Rattle.board.proofs.Pieces.{not-none, within-outside, nth-outside}
 use Rattle.board.proofs.Meant.{taskMeant-none}
 use Rattle.board.proofs.Codec.{length-places}

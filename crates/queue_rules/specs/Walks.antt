@@ -6,16 +6,15 @@
 --   messageTurned z b k m low          one link of task k's queue; one that leads beyond the board leads astray
 --   queueWalked z b k                  the walk of task k's queue
 --   walked z b n                       the walks of the queues of tasks 1 to n, one after the other
+--   saw w n                            a walk that ended and saw n
 -- Assumes nothing.
-use mathlib.Core.Bool.{Bool, true, false, cond, _&&_}
+use mathlib.Core.Bool.{Bool, false, cond, _&&_}
 use Prim.Native.Nat.{ℕ, zero, suc, _+_}
 use lib.Dec.{eqb, leb}
 use Rattle.board.specs.declared.numbers.Size.{Size}
 use Rattle.board.specs.declared.numbers.MessageMeant.{MessageMeant}
 use Rattle.board.specs.declared.numbers.MessageMeant.the-variants.{Message, NoMessage}
 use Rattle.board.specs.declared.records.Task.{Task}
-use Rattle.board.specs.declared.places.Place.{Place}
-use Rattle.board.specs.declared.places.Place.the-variants.{Free, HeldBy, QueuedAt, Nowhere}
 use Rattle.board.specs.Numbers.{messageMeant}
 use Rattle.board.specs.Places.{isQueuedAt, isQueued}
 use Rattle.board.specs.Board.{Board, task, place}
@@ -69,3 +68,7 @@ added (Seen s) (Seen n) = Seen (s + n)
 unfoldable pub walked : Size → Board → ℕ → Walked
 walked z b zero = Seen 0
 walked z b (suc k) = added (walked z b k) (queueWalked z b (suc k))
+
+abbrev pub saw : Walked → ℕ → Bool
+saw (Seen n) m = eqb n m
+saw Broken m = false

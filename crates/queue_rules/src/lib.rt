@@ -4,19 +4,15 @@ ghost use mathlib.Core.Path.{_≡_};
 ghost use mathlib.Core.Bool.{false};
 ghost use Prim.Native.Nat.{_≤_};
 ghost use lib.ListN.{length};
-ghost use Rattle.links.specs.Queue.{each};
 ghost use Rattle.board.specs.Numbers.{outside};
 ghost use Rattle.board.specs.Board.{total, boardOf};
-ghost use Rattle.paper.specs.Rules.{rule5At};
-ghost use Rattle.queue_rules.specs.Walks.{messageTurned, queueVisited, queueWalked, counted, queued, walked};
+ghost use Rattle.queue_rules.specs.Walks.{messageTurned, queueVisited, queueWalked, walked, saw};
 use board::numbers::MessageMeant;
 use board::numbers::MsgNo;
 use board::numbers::Size;
 use board::numbers::TaskMeant;
 use board::numbers::TaskNo;
-use board::places::Place;
 use board::priority::number;
-use lent::by_word::place_meant;
 use lent::bytes::MessageLink;
 use lent::bytes::link_from;
 use lent::bytes::prio_of;
@@ -99,23 +95,6 @@ fn walk_queue(z: Size, l: &[u8], k: TaskNo) -> Walked
     walk_from(z, l, k, first)
 }
 
-fn count_queued(z: Size, l: &[u8]) -> u16
-    requires { ⌜ total z ≤ length (now l) ⌝ }
-    ensures { λ res. ⌜ res ≡ counted (queued (boardOf z (now (l .entry)))) (z .messages) ⌝ }
-{
-    let most = z.messages;
-    let mut m: u16 = 0;
-    let mut n: u16 = 0;
-    while m < most {
-        m += 1;
-        let p = place_meant(z, l, m);
-        if let Place::QueuedAt(_) = p {
-            n += 1;
-        }
-    }
-    n
-}
-
 // Every queue walked, and how many messages they saw together.
 fn walk_queues(z: Size, l: &[u8]) -> Walked
     requires { ⌜ total z ≤ length (now l) ⌝ }
@@ -138,13 +117,14 @@ fn walk_queues(z: Size, l: &[u8]) -> Walked
     Walked::Seen(sum)
 }
 
-pub fn rule5(z: Size, l: &[u8]) -> bool
+// R5, where so many messages are queued: the walks of all queues saw as many.
+pub fn rule5(z: Size, l: &[u8], queued: u16) -> bool
     requires { ⌜ total z ≤ length (now l) ⌝ }
-    ensures { λ res. ⌜ res ≡ each (rule5At z (boardOf z (now (l .entry)))) (z .tasks) ⌝ }
+    ensures { λ res. ⌜ res ≡ saw (walked z (boardOf z (now (l .entry))) (z .tasks)) queued ⌝ }
 {
     let walks = walk_queues(z, l);
     let Walked::Seen(n) = walks else {
         return false;
     };
-    n == count_queued(z, l) as u32
+    n == queued as u32
 }

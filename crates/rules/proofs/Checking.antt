@@ -4,6 +4,7 @@ use mathlib.Core.Path.{_≡_, refl, sym, ap, _∙_}
 use mathlib.Core.Bool.{Bool, true, false, cond, not, _&&_, and-false}
 use mathlib.Core.List.{List}
 use Prim.Native.Nat.{ℕ}
+use native.Mathlib.Omega.{arith}
 use Rattle.links.specs.Queue.{each}
 use Rattle.links.proofs.Bools.{and-true, both}
 use Rattle.board.specs.declared.numbers.Size.{Size}
@@ -16,12 +17,17 @@ use Rattle.board.specs.Records.{noTask}
 use Rattle.board.specs.Board.{Board, boardOf, task}
 use Rattle.board.proofs.Pieces.{nth-outside}
 use Rattle.board.proofs.Codec.{length-tasks}
-use Rattle.paper.specs.Rules.{running, rule1, rule2At, rule3, rule4At, rule5At, rule6At, rule7}
+use Rattle.paper.specs.Rules.{present, running, rule1, rule2At, rule3, rule4At, rule5At, rule6At, rule7}
 use Rattle.order_rules.specs.declared.tasks.Order.{Order}
 use Rattle.order_rules.specs.declared.tasks.Order.the-variants as order
-use Rattle.order_rules.specs.Order.{listed}
+use Rattle.order_rules.specs.Order.{orderFrom, listedBy, listed}
+use Rattle.order_rules.proofs.OrderTurns.{order-counted}
+use Rattle.queue_rules.specs.Walks.{counted, queued, walked, saw}
+use Rattle.queue_rules.proofs.Lists.{rule5-counted}
+use Rattle.rules.specs.declared.records.Survey.{Survey}
+use Rattle.rules.specs.declared.records.Survey.the-variants as survey
 use Rattle.rules.specs.declared.Checked.the-variants.{Broken, Passes}
-use Rattle.rules.specs.Checked.{notDue, checkedOf}
+use Rattle.rules.specs.Checked.{surveyed, notDue, checkedOf}
 
 -- ---- R3's answer
 -- is it broken
@@ -45,6 +51,15 @@ answer-runner false c = refl
 not-back : (s t : Bool) → not s ≡ t → s ≡ not t
 not-back true t e = ap not e
 not-back false t e = ap not e
+
+-- ---- a survey: t is the rule, n how many are there
+survey-broken : (t : Bool) (n : ℕ) → survey.Broken ≡ surveyed t n → t ≡ false
+survey-broken true n e = let f : _≡_ {A = ℕ} 0 1 = cc in absurd (omega arith)
+survey-broken false n e = refl
+
+survey-good : (t : Bool) (n k : ℕ) → survey.Good k ≡ surveyed t n → (t ≡ true) × (k ≡ n)
+survey-good true n k e = (refl, let f : survey.Good k ≡ survey.Good n = e in cc)
+survey-good false n k e = let f : _≡_ {A = ℕ} 0 1 = cc in absurd (omega arith)
 
 -- ---- the board l
 module _ (z : Size) (l : List ℕ) where
@@ -114,12 +129,35 @@ module _ (z : Size) (l : List ℕ) where
   breaks6 e = broken (second to5 r6 e)
 
   -- R2 and R6, asked together
-  pub breaks2-6 : r2 && r6 ≡ false → Broken ≡ checkedOf z b
+  breaks2-6 : r2 && r6 ≡ false → Broken ≡ checkedOf z b
   breaks2-6 e = go r2 refl
     where
       go : (t : Bool) → r2 ≡ t → Broken ≡ checkedOf z b
       go true f = breaks6 (sym (ap (λ (u : Bool). u && r6) f) ∙ e)
       go false f = breaks2 f
+
+  -- ---- what the surveys say, x of the tasks and y of the messages
+  module _ {x : Survey} (ex : x ≡ surveyed (r2 && r6) (counted (present b) (z .tasks))) where
+    pub tasks-broken : x ≡ survey.Broken → Broken ≡ checkedOf z b
+    tasks-broken e = breaks2-6 (survey-broken (r2 && r6) _ (sym e ∙ ex))
+
+    pub tasks-good : {p : ℕ} → x ≡ survey.Good p → (r2 && r6 ≡ true) × (p ≡ counted (present b) (z .tasks))
+    tasks-good {p = p} e = survey-good (r2 && r6) _ p (sym e ∙ ex)
+
+    -- so R3 is asked with their number
+    pub order-asked : {p : ℕ} {o : Order} → x ≡ survey.Good p → o ≡ listedBy p (orderFrom z b (b .first)) → o ≡ listed z b
+    order-asked {p = p} e eo = eo ∙ order-counted z l p (tasks-good e .1)
+
+  module _ {y : Survey} (ey : y ≡ surveyed r4 (counted (queued b) (z .messages))) where
+    pub messages-broken : y ≡ survey.Broken → r4 ≡ false
+    messages-broken e = survey-broken r4 _ (sym e ∙ ey)
+
+    pub messages-good : {n : ℕ} → y ≡ survey.Good n → (r4 ≡ true) × (n ≡ counted (queued b) (z .messages))
+    messages-good {n = n} e = survey-good r4 _ n (sym e ∙ ey)
+
+    -- and R5 with theirs
+    pub queues-asked : {n : ℕ} {t : Bool} → y ≡ survey.Good n → t ≡ saw (walked z b (z .tasks)) n → t ≡ r5
+    queues-asked {n = n} e et = et ∙ rule5-counted z l n (messages-good e .1)
 
   -- ---- R3's walk met c
   task-met : (w : ℕ) → task b (numberOfTask (taskMeant z w)) ≡ task b w

@@ -1,2 +1,3 @@
 mod Turns
+mod Places
 pub mod Checking

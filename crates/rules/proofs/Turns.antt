@@ -13,6 +13,8 @@ use borrow.Author.Tests.{not-true, not-false}
 use Rattle.links.specs.Queue.{each}
 use Rattle.links.proofs.Bools.{and-true, each-at}
 use Rattle.paper.specs.Rules.{allZero}
+use Rattle.rules.specs.declared.records.Survey.the-variants as survey
+use Rattle.rules.specs.Checked.{surveyed}
 
 -- ---- bytes 1 to 3
 -- they are read one by one, as 0 past the end
@@ -54,3 +56,11 @@ each-both f g (suc n) = ap (λ (t : Bool). t && (f (suc n) && g (suc n))) (each-
     swap true false true v = refl
     swap true false false v = refl
     swap false t u v = refl
+
+-- ---- a survey: t is the rule, n how many are there
+module _ (t : Bool) (n : ℕ) where
+  pub survey-fails : false ≡ t → survey.Broken ≡ surveyed t n
+  survey-fails e = ap (λ (s : Bool). surveyed s n) e
+
+  pub survey-done : {k : ℕ} → true ≡ t → k ≡ n → survey.Good k ≡ surveyed t n
+  survey-done e f = ap survey.Good f ∙ ap (λ (s : Bool). surveyed s n) e

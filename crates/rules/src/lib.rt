@@ -7,6 +7,7 @@ ghost use Prim.Native.Nat.{_≤_};
 ghost use lib.ListN.{length};
 ghost use Rattle.board.specs.Board.{total, boardOf};
 ghost use Rattle.rules.specs.Checked.{checkedOf, notDue};
+use crate::records::Survey;
 use crate::records::good_tasks;
 use crate::records::rule1;
 use crate::records::rule4;
@@ -44,17 +45,19 @@ pub fn check_rules(z: Size, l: &[u8]) -> Checked
     if !rule1(l) {
         return Checked::Broken;
     }
-    if !good_tasks(z, l) {
+    let tasks = good_tasks(z, l);
+    let Survey::Good(present) = tasks else {
         return Checked::Broken;
-    }
-    let order = rule3(z, l);
+    };
+    let order = rule3(z, l, present);
     let Order::Listed(c) = order else {
         return Checked::Broken;
     };
-    if !rule4(z, l) {
+    let messages = rule4(z, l);
+    let Survey::Good(queued) = messages else {
         return Checked::Broken;
-    }
-    if !rule5(z, l) {
+    };
+    if !rule5(z, l, queued) {
         return Checked::Broken;
     }
     if !rule7(z, l, c) {

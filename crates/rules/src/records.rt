@@ -6,6 +6,8 @@ ghost use lib.Dec.{eqb};
 ghost use lib.ListN.{length, getD, take, drop};
 ghost use Rattle.links.specs.Queue.{each};
 ghost use Rattle.board.specs.Board.{total, boardOf};
+ghost use Rattle.queue_rules.specs.Walks.{counted, queued};
+ghost use Rattle.rules.specs.Checked.{surveyed};
 ghost use Rattle.paper.specs.Rules.{present, allZero, rule2At, goodMessage, rule4At, rule6At};
 use board::numbers::Size;
 use board::numbers::TaskNo;
@@ -22,6 +24,12 @@ use record_rules::messages::zero_message;
 use record_rules::tasks::good_flags;
 use record_rules::tasks::good_one;
 use record_rules::tasks::good_task;
+
+// Every record passed, and so many of them are there, present tasks or queued messages; or one did not pass.
+pub enum Survey {
+    Good(u16),
+    Broken,
+}
 
 pub fn rule1(l: &[u8]) -> bool
     ensures { λ res. ⌜ res ≡ eqb (getD (now (l .entry)) 1 0) 0 && allZero (take 2 (drop 2 (now (l .entry)))) ⌝ }
@@ -70,21 +78,26 @@ fn good_message(z: Size, l: &[u8], u: Message, p: Place) -> bool
     }
 }
 
-pub fn rule4(z: Size, l: &[u8]) -> bool
+// R4, and how many messages are queued.
+pub fn rule4(z: Size, l: &[u8]) -> Survey
     requires { ⌜ total z ≤ length (now l) ⌝ }
-    ensures { λ res. ⌜ res ≡ each (rule4At z (boardOf z (now (l .entry)))) (z .messages) ⌝ }
+    ensures { λ res. ⌜ res ≡ surveyed (each (rule4At z (boardOf z (now (l .entry)))) (z .messages)) (counted (queued (boardOf z (now (l .entry)))) (z .messages)) ⌝ }
 {
     let most = z.messages;
     let mut m: u16 = 0;
+    let mut n: u16 = 0;
     while m < most {
         m += 1;
         let u = message_meant(z, l, m);
         let p = place_meant(z, l, m);
         if !good_message(z, l, u, p) {
-            return false;
+            return Survey::Broken;
+        }
+        if let Place::QueuedAt(_) = p {
+            n += 1;
         }
     }
-    true
+    Survey::Good(n)
 }
 
 pub fn rule6(z: Size, l: &[u8]) -> bool
@@ -103,18 +116,23 @@ pub fn rule6(z: Size, l: &[u8]) -> bool
     true
 }
 
-// R2 and R6 in one pass over the tasks: the check asks it. Who tells which rule is broken asks them one by one.
-pub fn good_tasks(z: Size, l: &[u8]) -> bool
+// R2 and R6 in one pass over the tasks, and how many are present: the check asks it. Who tells which rule is broken asks them one by one.
+pub fn good_tasks(z: Size, l: &[u8]) -> Survey
     requires { ⌜ total z ≤ length (now l) ⌝ }
-    ensures { λ res. ⌜ res ≡ (each (rule2At (boardOf z (now (l .entry)))) (z .tasks) && each (rule6At (boardOf z (now (l .entry)))) (z .tasks)) ⌝ }
+    ensures { λ res. ⌜ res ≡ surveyed (each (rule2At (boardOf z (now (l .entry)))) (z .tasks) && each (rule6At (boardOf z (now (l .entry)))) (z .tasks)) (counted (present (boardOf z (now (l .entry)))) (z .tasks)) ⌝ }
 {
     let most = z.tasks;
     let mut k: u16 = 0;
+    let mut n: u16 = 0;
     while k < most {
         k += 1;
-        if !good_one(task_meant(z, l, k)) {
-            return false;
+        let t = task_meant(z, l, k);
+        if !good_one(t) {
+            return Survey::Broken;
+        }
+        if t.present() {
+            n += 1;
         }
     }
-    true
+    Survey::Good(n)
 }

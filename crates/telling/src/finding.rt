@@ -12,10 +12,12 @@ use crate::print::text;
 use board::numbers::Size;
 use for_c::pack::refusal_number;
 use order_rules::tasks::Order;
+use order_rules::tasks::count_present;
 use order_rules::tasks::rule3;
 use paper::answer::Answer;
 use paper::answer::Refusal;
 use queue_rules::rule5;
+use rules::records::Survey;
 use rules::records::rule1;
 use rules::records::rule2;
 use rules::records::rule4;
@@ -68,14 +70,15 @@ fn broken_rule(z: Size, l: &[u8]) -> u8
     if !rule2(z, l) {
         return 2;
     }
-    let order = rule3(z, l);
+    let order = rule3(z, l, count_present(z, l));
     let Order::Listed(c) = order else {
         return 3;
     };
-    if !rule4(z, l) {
+    let messages = rule4(z, l);
+    let Survey::Good(queued) = messages else {
         return 4;
-    }
-    if !rule5(z, l) {
+    };
+    if !rule5(z, l, queued) {
         return 5;
     }
     if !rule6(z, l) {
