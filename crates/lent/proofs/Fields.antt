@@ -8,13 +8,17 @@ use native.Mathlib.Omega.{arith}
 use lib.ListN.{getD}
 use borrow.Author.Tests.{eq-eqb, ne-eqb}
 use Rattle.board.specs.declared.numbers.Size.{Size}
+use Rattle.board.specs.declared.numbers.MsgNo.{MsgNo}
 use Rattle.board.specs.declared.numbers.MessageMeant.{MessageMeant}
+use Rattle.board.specs.declared.numbers.MessageMeant.the-variants as which
 use Rattle.board.specs.declared.records.Message.{Message}
 use Rattle.board.specs.Numbers.{messageMeant}
-use Rattle.lent.specs.declared.bytes.MessageLink.the-variants.{End}
+use Rattle.lent.specs.declared.bytes.MessageLink.the-variants.{On, End}
 use Rattle.lent.specs.Links.{onward, messageLink}
 use Rattle.board.specs.Records.{wordAt, noMessage}
 use Rattle.board.specs.Board.{boardOf, message}
+use Rattle.board.proofs.Pieces.{not-none}
+use Rattle.board.proofs.Meant.{messageMeant-message}
 use Rattle.lent.proofs.Access.{message-beyond, message-reads}
 
 -- ---- LINK and PRIO of message m, which the code holds as n, where the field lies at o
@@ -49,3 +53,8 @@ module _ (z : Size) (w v : ℕ) (e : v ≡ w) where
   link-leads h x g =
       ap onward (g ∙ ap (messageMeant z) e)
       ∙ ap (λ (t : Bool). cond t End (onward (messageMeant z w))) (sym (ne-eqb w 0 (λ i. h (e ∙ i))))
+
+  -- it means the message j
+  pub link-on : (x : MessageMeant) (j : MsgNo) → x ≡ messageMeant z v → x ≡ which.Message j → On j ≡ messageLink z w
+  link-on x j g h =
+      ap onward (sym h) ∙ link-leads (not-none (z .messages) v (messageMeant-message z v j (sym g ∙ h) .0)) x g

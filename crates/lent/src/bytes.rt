@@ -233,20 +233,20 @@ pub fn next_message(z: Size, l: &[u8], m: MsgNo) -> MessageMeant
     MsgNo::meant(z, link_of(z, l, m))
 }
 
-// Where LINK leads: on to a message, to the end where it is 0, or beyond the board.
+// Where LINK leads: on to a message, to the end where it is 0, or beyond the board. A walk goes on by one test of the link.
 pub fn link_from(z: Size, l: &[u8], m: MsgNo) -> MessageLink
     requires { ⌜ total z ≤ length (now l) ⌝ }
     ensures { λ res. ⌜ res ≡ messageLink z (message (boardOf z (now (l .entry))) (m .0) .link) ⌝ }
 {
     let w = link_of(z, l, m);
+    let meant = MsgNo::meant(z, w);
+    if let MessageMeant::Message(j) = meant {
+        return MessageLink::On(j);
+    }
     if w == 0 {
         return MessageLink::End;
     }
-    let meant = MsgNo::meant(z, w);
-    let MessageMeant::Message(j) = meant else {
-        return MessageLink::Beyond;
-    };
-    MessageLink::On(j)
+    MessageLink::Beyond
 }
 
 // PRIO of message m.
