@@ -6,14 +6,11 @@ ghost use Prim.Native.Nat.{_-_, _≤_};
 ghost use lib.ListN.{length};
 ghost use Rattle.board.specs.Numbers.{outside};
 ghost use Rattle.board.specs.Board.{total, boardOf};
-ghost use Rattle.paper.specs.Rules.{present};
-ghost use Rattle.queue_rules.specs.Walks.{counted};
 ghost use Rattle.order_rules.specs.Order.{taskTurned, orderVisited, withRunner, orderFrom, listedBy};
 use board::numbers::Size;
 use board::numbers::TaskMeant;
 use board::numbers::TaskNo;
 use board::priority::number;
-use lent::by_word::task_meant;
 use lent::bytes::first_task;
 use lent::bytes::no_tasks;
 use lent::bytes::task_at;
@@ -146,23 +143,6 @@ fn walk_tasks(z: Size, l: &[u8]) -> OrderWalked
         return OrderWalked::Broken;
     };
     walk_from(z, l, first)
-}
-
-pub fn count_present(z: Size, l: &[u8]) -> u16
-    requires { ⌜ total z ≤ length (now l) ⌝ }
-    ensures { λ res. ⌜ res ≡ counted (present (boardOf z (now (l .entry)))) (z .tasks) ⌝ }
-{
-    let most = z.tasks;
-    let mut k: u16 = 0;
-    let mut n: u16 = 0;
-    while k < most {
-        k += 1;
-        let t = task_meant(z, l, k);
-        if t.present() {
-            n += 1;
-        }
-    }
-    n
 }
 
 // R3, where so many tasks are present: the walk saw as many.

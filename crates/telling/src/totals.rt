@@ -11,7 +11,25 @@ use crate::print::decimal;
 use crate::print::text;
 use board::numbers::Size;
 use lent::by_word::place_meant;
-use order_rules::tasks::count_present;
+use lent::by_word::task_meant;
+
+// How many tasks are installed.
+pub fn count_present(z: Size, l: &[u8]) -> u16
+    requires { ⌜ total z ≤ length (now l) ⌝ }
+    ensures { λ res. ⌜ res ≡ counted (present (boardOf z (now (l .entry)))) (z .tasks) ⌝ }
+{
+    let most = z.tasks;
+    let mut k: u16 = 0;
+    let mut n: u16 = 0;
+    while k < most {
+        k += 1;
+        let t = task_meant(z, l, k);
+        if t.present() {
+            n += 1;
+        }
+    }
+    n
+}
 
 // Block m lies at a place whose byte is from low to high.
 fn lies(l: &[u8], m: u16, low: u8, high: u8) -> bool

@@ -1,4 +1,4 @@
--- `order_rules::tasks::count_present` meets its contract.
+-- `telling::totals::count_present` meets its contract.
 use mathlib.Core.Path.{_≡_, refl, sym, ap, _∙_}
 use Prim.Native.Nat.{_-_, _≤_}
 use native.Mathlib.Omega.{arith}
@@ -8,8 +8,8 @@ use Rattle.board.specs.Board.{boardOf}
 use Rattle.paper.specs.Rules.{isThere, present}
 use Rattle.queue_rules.specs.Walks.{counted}
 use Rattle.queue_rules.proofs.Turns.{count-starts, count-yes, count-no, count-bound}
-use Rattle.order_rules.proofs.tasks.count_present.Statement.{statement}
-use Rattle.order_rules.proofs.tasks.count_present.Tie as tie
+use Rattle.telling.proofs.totals.count_present.Statement.{statement}
+use Rattle.telling.proofs.totals.count_present.Tie as tie
 
 abbrev Inv-loop : tie.InvT-loop
 Inv-loop z b most k₀ n₀ k n = (k ≤ most) × (most ≡ z .tasks) × (n ≡ counted (present (boardOf z b)) k)
