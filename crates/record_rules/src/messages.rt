@@ -1,4 +1,4 @@
-// A message's record: R4 asks for ten zeros of a free one, and of one held or queued, whose task is there or not, for what its place needs.
+// A message's record: R4 asks for zeros of a free one, and of one held or queued, whose task is there or not, for what its place needs.
 ghost use mathlib.Core.Bool.{_&&_};
 ghost use mathlib.Core.Path.{_≡_};
 ghost use lib.Dec.{eqb, ltb};
