@@ -21,15 +21,16 @@ use Rattle.board.specs.Board.{Board, boardOf, task}
 use Rattle.board.proofs.Pieces.{not-none, nth-outside}
 use Rattle.board.proofs.Meant.{taskMeant-task}
 use Rattle.board.proofs.Codec.{length-tasks}
-use Rattle.paper.specs.Rules.{isThere, present, ready, nextTask, taskNumber, running}
+use Rattle.paper.specs.Rules.{isThere, present, ready, nextTask, taskNumber, running, rule3}
 use Rattle.queue_rules.specs.declared.Walked.{Walked}
 use Rattle.queue_rules.specs.declared.Walked.the-variants as walks
 use Rattle.order_rules.specs.declared.tasks.OrderWalked.{OrderWalked}
 use Rattle.order_rules.specs.declared.tasks.OrderWalked.the-variants.{Seen, Broken}
+use Rattle.order_rules.specs.declared.tasks.Order.{Order}
 use Rattle.order_rules.specs.declared.tasks.Order.the-variants as order
 use Rattle.order_rules.specs.declared.tasks.TaskTurn.{TaskTurn}
 use Rattle.order_rules.specs.declared.tasks.TaskTurn.the-variants as ts
-use Rattle.order_rules.specs.Order.{onTask, taskTurned, orderVisited, withRunner, orderFrom, listedBy, listed}
+use Rattle.order_rules.specs.Order.{onTask, taskTurned, orderVisited, withRunner, orderFrom, listedBy}
 use Rattle.queue_rules.specs.Walks.{counted, saw}
 use Rattle.queue_rules.proofs.Lists.{rule3-is}
 use Rattle.queue_rules.proofs.Turns.{first-none, first-out, first-found, first-behind}
@@ -257,12 +258,16 @@ module _ (z : Size) (l : List ℕ) where
   abbrev runner : TaskMeant
   runner = taskMeant z (running z board)
 
+  -- R3's answer: the task queue is in order and this task runs, or it is broken
+  abbrev pub listed : Order
+  listed = cond (rule3 z board) (order.Listed runner) order.Broken
+
   abbrev seen : Walked
   seen = orderVisited board (z .messages) (board .first) 0 0
 
   -- it saw as many as are present, p: the task queue lists them all
   pub order-counted : (p : ℕ) → p ≡ counted (present board) (z .tasks)
-      → listedBy p (orderFrom z board (board .first)) ≡ listed z board
+      → listedBy p (orderFrom z board (board .first)) ≡ listed
   order-counted p g =
       told seen ∙ ap (λ (t : Bool). cond t (order.Listed runner) order.Broken) (ap (saw seen) g ∙ rule3-is z board (length-tasks z l))
     where

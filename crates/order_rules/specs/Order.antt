@@ -3,7 +3,6 @@
 --   orderVisited b n x ..  the walk of the task queue
 --   orderFrom z b x        the walk from x on, with the first ready task that it meets
 --   listedBy p w           what a walk says where p tasks are present: all are listed and this task runs, or it is broken
---   listed z b             R3's answer: the task queue is in order and this task runs, or it is broken
 -- Assumes nothing.
 use mathlib.Core.Bool.{cond}
 use Prim.Native.Nat.{ℕ}
@@ -14,7 +13,7 @@ use Rattle.board.specs.declared.numbers.TaskMeant.{TaskMeant}
 use Rattle.board.specs.declared.numbers.TaskMeant.the-variants.{Task, NoTask}
 use Rattle.board.specs.Numbers.{taskMeant}
 use Rattle.board.specs.Board.{Board}
-use Rattle.paper.specs.Rules.{present, ready, nextTask, taskNumber, running, rule3}
+use Rattle.paper.specs.Rules.{present, ready, nextTask, taskNumber}
 use Rattle.queue_rules.specs.declared.Walked.{Walked}
 use Rattle.queue_rules.specs.declared.Walked.the-variants as walks
 use Rattle.order_rules.specs.declared.tasks.TaskTurn.{TaskTurn}
@@ -47,6 +46,3 @@ orderFrom z b x =
 abbrev pub listedBy : ℕ → OrderWalked → Order
 listedBy p (Seen n c) = cond (eqb n p) (order.Listed c) order.Broken
 listedBy p Broken = order.Broken
-
-abbrev pub listed : Size → Board → Order
-listed z b = cond (rule3 z b) (order.Listed (taskMeant z (running z b))) order.Broken

@@ -89,7 +89,7 @@ pub fn good_flags(s: Status, empty: bool) -> bool
 }
 
 // One task's record keeps R2 and R6.
-pub fn good_one(t: Task) -> bool
+pub fn good_task_and_flags(t: Task) -> bool
     ensures { λ res. ⌜ res ≡ (goodTask t && goodFlags (t .stat) (eqb (t .mptr) 0)) ⌝ }
 {
     if !good_task(t) {

@@ -20,8 +20,8 @@ use Rattle.board.proofs.Codec.{length-tasks}
 use Rattle.paper.specs.Rules.{present, running, rule1, rule2At, rule3, rule4At, rule5At, rule6At, rule7}
 use Rattle.order_rules.specs.declared.tasks.Order.{Order}
 use Rattle.order_rules.specs.declared.tasks.Order.the-variants as order
-use Rattle.order_rules.specs.Order.{orderFrom, listedBy, listed}
-use Rattle.order_rules.proofs.OrderTurns.{order-counted}
+use Rattle.order_rules.specs.Order.{orderFrom, listedBy}
+use Rattle.order_rules.proofs.OrderTurns.{listed, order-counted}
 use Rattle.queue_rules.specs.Walks.{counted, queued, walked, saw}
 use Rattle.queue_rules.proofs.Lists.{rule5-counted}
 use Rattle.rules.specs.declared.records.Survey.{Survey}
@@ -113,10 +113,10 @@ module _ (z : Size) (l : List ℕ) where
   breaks2 : r2 ≡ false → Broken ≡ checkedOf z b
   breaks2 e = after3 (first to2 (rule3 z b) (second (rule1 b) r2 e))
 
-  pub out-of-order : order.Broken ≡ listed z b → rule3 z b ≡ false
+  pub out-of-order : order.Broken ≡ listed z l → rule3 z b ≡ false
   out-of-order e = not-back (rule3 z b) true (sym (answer-broken (rule3 z b) _) ∙ ap isBroken (sym e))
 
-  pub breaks3 : order.Broken ≡ listed z b → Broken ≡ checkedOf z b
+  pub breaks3 : order.Broken ≡ listed z l → Broken ≡ checkedOf z b
   breaks3 e = after3 (second to2 (rule3 z b) (out-of-order e))
 
   pub breaks4 : r4 ≡ false → Broken ≡ checkedOf z b
@@ -145,7 +145,7 @@ module _ (z : Size) (l : List ℕ) where
     tasks-good {p = p} e = survey-good (r2 && r6) _ p (sym e ∙ ex)
 
     -- so R3 is asked with their number
-    pub order-asked : {p : ℕ} {o : Order} → x ≡ survey.Good p → o ≡ listedBy p (orderFrom z b (b .first)) → o ≡ listed z b
+    pub order-asked : {p : ℕ} {o : Order} → x ≡ survey.Good p → o ≡ listedBy p (orderFrom z b (b .first)) → o ≡ listed z l
     order-asked {p = p} e eo = eo ∙ order-counted z l p (tasks-good e .1)
 
   module _ {y : Survey} (ey : y ≡ surveyed r4 (counted (queued b) (z .messages))) where
@@ -167,7 +167,7 @@ module _ (z : Size) (l : List ℕ) where
       go true e = sym (nth-outside noTask (b .tasks) w (ap (λ (n : ℕ). outside n w) (length-tasks z l) ∙ e))
       go false e = refl
 
-  module _ (c : TaskMeant) (e : order.Listed c ≡ listed z b) where
+  module _ (c : TaskMeant) (e : order.Listed c ≡ listed z l) where
     pub in-order : rule3 z b ≡ true
     in-order = not-back (rule3 z b) false (sym (answer-broken (rule3 z b) _) ∙ ap isBroken (sym e))
 

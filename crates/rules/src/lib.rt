@@ -1,5 +1,6 @@
 // CODE. The check of a board: does it keep R1 to R7, and who runs? Each rule is a function of the lent bytes whose answer is proved to be
-// the definition's (paper, Rules). Each record is looked at a bounded number of times, each queue walked once.
+// the definition's (paper, Rules). Each record is looked at a bounded number of times, each queue walked once; the passes over the records
+// count for R3 and R5.
 pub mod records;
 
 ghost use mathlib.Core.Path.{_≡_};

@@ -22,8 +22,8 @@ use record_rules::messages::good_held;
 use record_rules::messages::good_queued;
 use record_rules::messages::zero_message;
 use record_rules::tasks::good_flags;
-use record_rules::tasks::good_one;
 use record_rules::tasks::good_task;
+use record_rules::tasks::good_task_and_flags;
 
 // Every record passed, and so many of them are there, present tasks or queued messages; or one did not pass.
 pub enum Survey {
@@ -127,7 +127,7 @@ pub fn good_tasks(z: Size, l: &[u8]) -> Survey
     while k < most {
         k += 1;
         let t = task_meant(z, l, k);
-        if !good_one(t) {
+        if !good_task_and_flags(t) {
             return Survey::Broken;
         }
         if t.present() {

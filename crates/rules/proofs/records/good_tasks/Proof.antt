@@ -39,7 +39,7 @@ returns c =
     let b = boardOf (a .z) (now (a .l)) in
     let f : ℕ → Bool = λ (k : ℕ). rule2At b k && rule6At b k in
     survey-fails _ (counted (present b) (a .z .tasks)) (each-fails f (a .z .tasks) (p .k) _ (c .before .before .before .loop-test .taken)
-    (c .before .good-one .ensures ∙ ap (λ (t : Task). goodTask t && goodFlags (t .stat) (eqb (t .mptr) 0)) (c .before .before .task-meant .ensures))
+    (c .before .good-task-and-flags .ensures ∙ ap (λ (t : Task). goodTask t && goodFlags (t .stat) (eqb (t .mptr) 0)) (c .before .before .task-meant .ensures))
     (c .if1 .taken)
     ∙ each-both (rule2At b) (rule6At b) (a .z .tasks))
 
@@ -58,7 +58,7 @@ loop-again c =
     let f : ℕ → Bool = λ (k : ℕ). rule2At b k && rule6At b k in (
       omega arith,
       refl,
-      each-next f (p .k) _ (g .before .good-one .ensures ∙ ap (λ (t : Task). goodTask t && goodFlags (t .stat) (eqb (t .mptr) 0)) (g .before .before .task-meant .ensures))
+      each-next f (p .k) _ (g .before .good-task-and-flags .ensures ∙ ap (λ (t : Task). goodTask t && goodFlags (t .stat) (eqb (t .mptr) 0)) (g .before .before .task-meant .ensures))
           (g .if1 .left) (p .inv .2),
       count-yes _ _ _ (p .inv .3) (sym (c .before .present .ensures ∙ ap isThere (g .before .before .task-meant .ensures)) ∙ c .if2 .taken),
     )
@@ -75,7 +75,7 @@ loop-again-2 c =
     let f : ℕ → Bool = λ (k : ℕ). rule2At b k && rule6At b k in (
       omega arith,
       refl,
-      each-next f (p .k) _ (g .before .good-one .ensures ∙ ap (λ (t : Task). goodTask t && goodFlags (t .stat) (eqb (t .mptr) 0)) (g .before .before .task-meant .ensures))
+      each-next f (p .k) _ (g .before .good-task-and-flags .ensures ∙ ap (λ (t : Task). goodTask t && goodFlags (t .stat) (eqb (t .mptr) 0)) (g .before .before .task-meant .ensures))
           (g .if1 .left) (p .inv .2),
       count-no _ _ _ (p .inv .3) (sym (c .before .present .ensures ∙ ap isThere (g .before .before .task-meant .ensures)) ∙ c .if2 .left),
     )
