@@ -7,7 +7,7 @@ use Prim.Native.Nat.{ℕ, zero, suc, _-_, _≤_, _<_}
 use native.Mathlib.Omega.{arith}
 use lib.ListN.{getD}
 use lib.Dec.{eqb, ltb}
-use borrow.Author.Tests.{ltb-true}
+use borrow.Author.Tests.{ltb-true, eqb-true, not-false}
 use Rattle.links.specs.Chain.{In}
 use Rattle.links.proofs.Bools.{both}
 use Rattle.board.specs.declared.numbers.Size.{Size}
@@ -24,9 +24,9 @@ use Rattle.paper.specs.declared.answer.Answer.{Answer}
 use Rattle.paper.specs.declared.answer.Answer.the-variants.{Accepted, Refused}
 use Rattle.paper.specs.Answers.{numberOf, Handed, handed}
 use Rattle.paper.specs.Rules.{emptyQueue, running}
-use Rattle.paper.specs.Refusals.{Test, no1, no2, row, Verdict, Go, Stop, lowest}
+use Rattle.paper.specs.Refusals.{Test, no1, no2, ownRow, row, Verdict, Go, Stop, lowest}
 use Rattle.paper.specs.Outcomes.{Outcome, Undispatched, accepted, refused, judge, deliver, dispatchTo, dispatch, body, blank}
-use Rattle.paper.specs.Claims.{NoSecondOutcome, Unchanged, RefusalChangesNothing, Given, LowestIsGiven, HandedTells}
+use Rattle.paper.specs.Claims.{NoSecondOutcome, Unchanged, RefusalChangesNothing, OnlyPassing, AcceptedPassed, Given, LowestIsGiven, HandedTells}
 use Rattle.paper.specs.Claims.{FreshInstallAccepted, AnswersDiffer, InstallWrites}
 
 pub no-second-outcome : NoSecondOutcome
@@ -89,20 +89,23 @@ given-lowest n (s ∷ tests) h = go (s .applies) refl (given-lowest _ tests (asc
     goes e g t (inr i) = g t i
 
     stops : (q : Refusal) → s .applies ≡ false → Given (Stop q) tests → Given (Stop q) (s ∷ tests)
-    stops q e g t (inl p) a = absurd (true≢false (sym a ∙ ap (λ (x : Test). x .applies) p ∙ e))
-    stops q e g t (inr i) a = g t i a
+    stops q e ((t, i, a, r), g) = ((t, inr i, a, r), below)
+      where
+        below : (t : Test) → In t (s ∷ tests) → t .applies ≡ true → numberOf q ≤ numberOf (t .refusal)
+        below t (inl p) a = absurd (true≢false (sym a ∙ ap (λ (x : Test). x .applies) p ∙ e))
+        below t (inr i) a = g t i a
 
     behind : (v : Verdict) → s .applies ≡ false → Given v tests → Given v (s ∷ tests)
     behind Go e g = goes e g
     behind (Stop q) e g = stops q e g
 
-    first : Given (Stop (s .refusal)) (s ∷ tests)
-    first t (inl q) a = let p = ap (λ (x : Test). numberOf (x .refusal)) q in omega arith
-    first t (inr i) a = in-above (numberOf (s .refusal)) tests (ascends-on n s tests h .1) t i
+    none-lower : (t : Test) → In t (s ∷ tests) → t .applies ≡ true → numberOf (s .refusal) ≤ numberOf (t .refusal)
+    none-lower t (inl q) a = let p = ap (λ (x : Test). numberOf (x .refusal)) q in omega arith
+    none-lower t (inr i) a = in-above (numberOf (s .refusal)) tests (ascends-on n s tests h .1) t i
 
     go : (v : Bool) → s .applies ≡ v → Given (lowest tests) tests
         → Given (elim v [ true ↦ Stop (s .refusal) | false ↦ lowest tests ]) (s ∷ tests)
-    go true e g = first
+    go true e g = ((s, inl refl, e, refl), none-lower)
     go false e g = behind (lowest tests) e g
 
 -- what each of a list passes, and any other, the one at i passes
@@ -143,6 +146,20 @@ row-below z l b c call = stop-below 0 (row z l b c call) (row-ascends z l b c ca
 
 pub lowest-is-given : LowestIsGiven
 lowest-is-given z l b c call = given-lowest 0 (row z l b c call) (row-ascends z l b c call)
+
+-- ---- accepted means that the board passed
+-- a row that begins with 1 and 2
+only-passing : (z : Size) (l : List ℕ) (tests : List Test) (o : Outcome) (v : Verdict)
+    → Given v (no1 z l ∷ no2 z (boardOf z l) ∷ tests) → OnlyPassing z l (judge l v o)
+only-passing z l tests o Go g v c m e =
+    (eqb-true _ _ (not-false _ (g (no1 z l) (inl refl))), not-false _ (g (no2 z (boardOf z l)) (inr (inl refl))))
+only-passing z l tests o (Stop q) g v c m e = let z : _≡_ {A = ℕ} 0 1 = cc in absurd (omega arith)
+
+pub accepted-passed : AcceptedPassed
+accepted-passed z l = let b = boardOf z l in let c = running z b in (
+  (λ call. only-passing z l (ownRow z b c call) (dispatch z l (body z b c call)) (lowest (row z l b c call)) (lowest-is-given z l b c call)),
+  only-passing z l [] (accepted 0 c 0 l) (lowest (no1 z l ∷ no2 z b ∷ [])) (given-lowest 0 (no1 z l ∷ no2 z b ∷ []) refl),
+)
 
 -- ---- the paper's number and values tell the answer
 abbrev refusals : List Refusal

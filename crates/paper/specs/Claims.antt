@@ -1,8 +1,9 @@
 -- What holds of every call whatever its row says, as statements; their proofs are in proofs/Theorems. A reader must believe this file.
 --   NoSecondOutcome     a contract that says Ends .. o fixes the answer and all bytes
 --   RefusalChangesNothing   a refused call, check or fresh leaves every byte
---   LowestIsGiven       of the refusals in a call's row the one given has the lowest number of those that apply, and none is given only
---                       where none applies
+--   AcceptedPassed      a call or a check is accepted only of bytes of the board's length whose board passes
+--   LowestIsGiven       the refusal given stands in the call's row and applies, and none of a lower number does; none is given only where
+--                       none applies
 --   HandedTells         the paper's number and values tell the answer
 --   FreshInstallAccepted, AnswersDiffer, InstallWrites   the definitions refuse not all, answer not always the same, and do write
 -- Assumes nothing.
@@ -11,16 +12,18 @@ use mathlib.Core.Logic.{_≢_}
 use mathlib.Core.Bool.{true, false}
 use mathlib.Core.List.{List}
 use Prim.Native.Nat.{ℕ, _≤_}
+use lib.ListN.{length}
 use Rattle.links.specs.Chain.{In}
 use Rattle.board.specs.declared.numbers.Size.{Size}
 use Rattle.board.specs.Numbers.{small}
-use Rattle.board.specs.Board.{Board}
+use Rattle.board.specs.Board.{Board, total, boardOf}
 use Rattle.paper.specs.declared.call.Call.{Call}
 use Rattle.paper.specs.declared.call.Call.the-variants.{Install, Claim, Receive}
 use Rattle.paper.specs.declared.answer.Refusal.{Refusal}
 use Rattle.paper.specs.declared.answer.Answer.{Answer}
 use Rattle.paper.specs.declared.answer.Answer.the-variants.{Accepted, Refused}
 use Rattle.paper.specs.Answers.{numberOf, handed}
+use Rattle.paper.specs.Rules.{passes}
 use Rattle.paper.specs.Refusals.{Test, row, Verdict, Go, Stop, lowest}
 use Rattle.paper.specs.Outcomes.{Outcome, Ends, effect, fresh, check, blank}
 
@@ -35,10 +38,19 @@ abbrev pub RefusalChangesNothing : Type 0
 RefusalChangesNothing =
     (z : Size) (l : List ℕ) → ((call : Call) → Unchanged l (effect z l call)) × Unchanged l (check z l) × Unchanged l (fresh z l)
 
+-- ---- accepted means that the board passed
+abbrev pub OnlyPassing : Size → List ℕ → Outcome → Type 0
+OnlyPassing z l o = (v c m : ℕ) → o .answer ≡ Accepted v c m → (length l ≡ total z) × (passes z (boardOf z l) ≡ true)
+
+abbrev pub AcceptedPassed : Type 0
+AcceptedPassed = (z : Size) (l : List ℕ) → ((call : Call) → OnlyPassing z l (effect z l call)) × OnlyPassing z l (check z l)
+
 -- ---- the lowest is given
 abbrev pub Given : Verdict → List Test → Type 0
 Given Go tests = (t : Test) → In t tests → t .applies ≡ false
-Given (Stop q) tests = (t : Test) → In t tests → t .applies ≡ true → numberOf q ≤ numberOf (t .refusal)
+Given (Stop q) tests =
+    ((t : Test) × In t tests × (t .applies ≡ true) × (t .refusal ≡ q))
+    × ((t : Test) → In t tests → t .applies ≡ true → numberOf q ≤ numberOf (t .refusal))
 
 abbrev pub LowestIsGiven : Type 0
 LowestIsGiven = (z : Size) (l : List ℕ) (b : Board) (c : ℕ) (call : Call) → Given (lowest (row z l b c call)) (row z l b c call)
