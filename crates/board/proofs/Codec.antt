@@ -21,6 +21,7 @@ use Rattle.board.specs.Numbers.{outside, taskNo}
 use Rattle.board.specs.Records.{wordAt, wordBytes, taskOf, taskBytes, messageOf, messageBytes}
 use Rattle.board.specs.Places.{placeOf, placeByte, placeIn, placeBytes}
 use Rattle.board.specs.Board.{total, taskArea, messageArea, placeArea, cut, join, pieces, boardOf, bytesOf}
+use Rattle.board.specs.Claims.{WritingBackChangesNothing}
 use Rattle.board.proofs.Pieces.{length-pieces, outside-within, within-outside, outside-above}
 
 -- ---- bytes
@@ -185,6 +186,9 @@ bytes-board z l e h =
     ∙ ap two (glue 2 2 l)
     ∙ ap (λ (r : List ℕ). getD l 0 0 ∷ r) (sym (drop-cons l 1 0 (omega arith)))
     ∙ sym (drop-cons l 0 0 (omega arith))
+
+pub writing-back-changes-nothing : WritingBackChangesNothing
+writing-back-changes-nothing z l h = bytes-board z l (h .long) (small-bytes l (h .bytes))
 
 -- ---- as many records as the board has
 -- tasks

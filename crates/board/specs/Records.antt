@@ -1,18 +1,25 @@
 -- Task and message records and the bytes they are made of: document 01, 'What the board holds'. A reader must believe this file.
+--   Byte x, Word x      x fits a byte, a word
 --   wordAt l i          the word at i, low byte first; wordBytes w its two bytes
 --   taskOf l            the task record in these ten bytes, taskBytes t the bytes of a record; messageOf, messageBytes: eight bytes
 --   noTask, noMessage   the records of zeros
 --   taskWithStat t s .. the record with one field changed, the others as they were
 -- Assumes nothing.
 use mathlib.Core.List.{List, [], _∷_, _++_}
-use Prim.Native.Nat.{ℕ, _+_, _*_, _/_, _%_}
+use Prim.Native.Nat.{ℕ, _+_, _*_, _/_, _%_, _<_}
 use lib.ListN.{getD}
 use Rattle.board.specs.declared.status.Status.{Status}
 use Rattle.board.specs.declared.records.Task.{Task}
 use Rattle.board.specs.declared.records.Message.{Message}
 use Rattle.board.specs.Status.{stored}
 
--- ---- words
+-- ---- bytes and words
+abbrev pub Byte : ℕ → Type 0
+Byte x = x < 256
+
+abbrev pub Word : ℕ → Type 0
+Word x = x < 65536
+
 abbrev pub wordAt : List ℕ → ℕ → ℕ
 wordAt l i = getD l i 0 + 256 * getD l (i + 1) 0
 

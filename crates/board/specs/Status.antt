@@ -10,7 +10,7 @@ use lib.Bits.{bitAnd, bitOr}
 use lib.Dec.{eqb}
 use Rattle.board.specs.declared.status.Status.{Status}
 
--- ---- STAT of a task; DEBUG 3 and MROB 2 have no effect
+-- ---- STAT of a task; DEBUG and MROB are kept and have no effect
 abbrev pub WAIT : ℕ
 WAIT = 128
 
@@ -22,6 +22,12 @@ BIT5 = 32
 
 abbrev pub INTQ : ℕ
 INTQ = 16
+
+abbrev pub DEBUG : ℕ
+DEBUG = 8
+
+abbrev pub MROB : ℕ
+MROB = 4
 
 abbrev pub MHBS : ℕ
 MHBS = 2

@@ -13,15 +13,16 @@ use Rattle.board.specs.declared.numbers.Size.{Size}
 use Rattle.board.specs.declared.records.Task.{Task}
 use Rattle.board.specs.declared.places.Place.the-variants as places
 use Rattle.board.specs.Status.{MHBS, has, stored}
-use Rattle.board.specs.Records.{wordAt, taskOf, noTask, messageOf, noMessage}
+use Rattle.board.specs.Records.{Byte, wordAt, taskOf, noTask, messageOf, noMessage}
 use Rattle.board.specs.Places.{placeOf, placeIn, isQueued}
 use Rattle.board.specs.Board.{Area, Board, taskArea, messageArea, placeArea, total, cut, pieces, boardOf, nth, task, message, place}
+use Rattle.board.specs.Claims.{Bytes}
 use Rattle.board.proofs.Numbered.{nth-map}
 use Rattle.paper.specs.Rules.{isThere, running}
 use Rattle.paper.specs.Outcomes.{blank}
 use Rattle.linked.specs.Sound.{PlaceGood}
-use Rattle.kept.specs.Settled.{Byte, Settled}
-use Rattle.kept.specs.Claims.{Sizes, Bytes}
+use Rattle.kept.specs.Settled.{Settled}
+use Rattle.kept.specs.Claims.{Sizes}
 use Rattle.kept.proofs.Flagging.{Flagged, flags-ready}
 use Rattle.kept.proofs.Fitting.{fits-board}
 use Rattle.kept.proofs.Theorems.{settled-passes}

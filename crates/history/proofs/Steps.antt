@@ -7,13 +7,14 @@ use Prim.Native.Nat.{ℕ}
 use lib.ListN.{length}
 use Rattle.board.specs.declared.numbers.Size.{Size}
 use Rattle.board.specs.Board.{Board, total, boardOf}
+use Rattle.board.specs.Claims.{Bytes}
 use Rattle.paper.specs.declared.call.Call.{Call}
 use Rattle.paper.specs.Rules.{running, passes}
 use Rattle.paper.proofs.Rows.{row-own}
 use Rattle.paper.specs.Refusals.{ownRow, Verdict, Go, Stop, lowest}
 use Rattle.paper.specs.Outcomes as paper
 use Rattle.kept.specs.Settled.{Settled, Fitting}
-use Rattle.kept.specs.Claims.{Sizes, Bytes}
+use Rattle.kept.specs.Claims.{Sizes}
 use Rattle.kept.proofs.Fitting.{board-bytes}
 use Rattle.kept.proofs.Theorems.{passing-sound, sound-runner, passing-stays-passing}
 use Rattle.kept.proofs.Bodies.{body-settles}

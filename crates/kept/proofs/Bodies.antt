@@ -3,8 +3,9 @@
 use mathlib.Core.Path.{_≡_, refl}
 use mathlib.Core.Logic.{inl, inr}
 use mathlib.Core.Bool.{false}
-use mathlib.Core.List.{List}
+use mathlib.Core.List.{List, []}
 use Prim.Native.Nat.{ℕ}
+use Rattle.links.proofs.Members.{isIn-in}
 use Rattle.board.specs.declared.numbers.Size.{Size}
 use Rattle.board.specs.Status.{IWAT, INTQ, MHBS, has}
 use Rattle.board.specs.Board.{Board, task, message}
@@ -17,11 +18,11 @@ use Rattle.paper.specs.Changes.{takeFirst}
 use Rattle.paper.specs.Refusals.{ownRow, Go, lowest}
 use Rattle.paper.specs.Outcomes.{body}
 use Rattle.kept.specs.Settled.{Settled, Fitting}
-use Rattle.kept.specs.Touched.{touched, orderAfter, queuesAfter}
+use Rattle.kept.specs.Touched.{touched, everyBit, forInterrupts, orderAfter, queuesAfter}
 use Rattle.kept.specs.Claims.{Sizes, BodySettles, BodyFrame, DispatchFrame}
-use Rattle.kept.proofs.Framing.{frame-none, frame-then, frame-stat, frame-message, frame-place}
-use Rattle.kept.proofs.Framed.{Framed, frame-flag, framed-install, framed-cancel, framed-release, framed-send, framed-send-wait}
-use Rattle.kept.proofs.Framed.{framed-forward, framed-forward-wait, framed-take, framed-back}
+use Rattle.kept.proofs.Framing.{Bit, frame-none, frame-then, frame-clear, frame-message, frame-place}
+use Rattle.kept.proofs.Framed.{Framed, frame-flag, frame-waits, framed-install, framed-cancel, framed-release, framed-send, framed-send-wait}
+use Rattle.kept.proofs.Framed.{framed-forward, framed-forward-wait, frame-take, framed-back}
 use Rattle.kept.proofs.Flagging.{post-settled, wait-settled}
 use Rattle.kept.proofs.Holding.{claim-settled, release-settled, prepare-settled}
 use Rattle.kept.proofs.Installing.{install-settled}
@@ -29,6 +30,13 @@ use Rattle.kept.proofs.Cancelling.{cancel-settled}
 use Rattle.kept.proofs.Waiting.{receive-and-wait-settled}
 use Rattle.kept.proofs.Placing.{send-settled, resend-settled, forward-settled, return-settled}
 use Rattle.kept.proofs.Taking.{receive-settled, cancel-message-settled}
+
+-- the bits of interrupts
+posted : Bit forInterrupts IWAT
+posted = (isIn-in IWAT everyBit refl, isIn-in IWAT forInterrupts refl)
+
+queued : Bit forInterrupts INTQ
+queued = (isIn-in INTQ everyBit refl, isIn-in INTQ forInterrupts refl)
 
 module _ (z : Size) (b : Board) (q : List ℕ) (f : ℕ → List ℕ) where
   abbrev c : ℕ
@@ -44,7 +52,7 @@ module _ (z : Size) (b : Board) (q : List ℕ) (f : ℕ → List ℕ) where
   keeps : (call : Call) → Framed z b c call × Settles call
   keeps (Install k s p sptr name) =
       (framed-install z b c k s p sptr name, λ a w h m g. install-settled z b q f a h k s p sptr name c w g)
-  keeps (PostInterrupt k) = (frame-flag b k IWAT INTQ (inl refl), λ a w h m g. post-settled z b q f h c k g)
+  keeps (PostInterrupt k) = (frame-flag b k IWAT INTQ (inl refl) posted queued, λ a w h m g. post-settled z b q f h c k g)
   keeps (Find name) = (frame-none b, λ a w h m g. h)
   keeps (CancelTask k) = (framed-cancel z b c k, λ a w h m g. cancel-settled z b q f a h k c g)
   keeps Claim = (frame-place b _ _ (inr (inl refl)), λ a w h m g. claim-settled z b q f a h g)
@@ -59,10 +67,10 @@ module _ (z : Size) (b : Board) (q : List ℕ) (f : ℕ → List ℕ) where
   keeps (ForwardAndWait n r) = (framed-forward-wait z b c n r, λ a w h m g. forward-settled z b q f a h n r g .1 m)
   keeps (Return n) = (framed-forward z b c n _, λ a w h m g. return-settled z b q f a h n g .0)
   keeps (ReturnAndWait n) = (framed-forward-wait z b c n (message b n .sptr), λ a w h m g. return-settled z b q f a h n g .1 m)
-  keeps Receive = (framed-take z b c, λ a w h m g. receive-settled z b q f a h m g)
-  keeps ReceiveAndWait = (frame-stat b c _ (inl refl), λ a w h m g. receive-and-wait-settled z b q f h m g)
+  keeps Receive = (frame-take z b c, λ a w h m g. receive-settled z b q f a h m g)
+  keeps ReceiveAndWait = (frame-waits b c (inl refl), λ a w h m g. receive-and-wait-settled z b q f h m g)
   keeps (CancelMessage n r) = (framed-back z b c n r, λ a w h m g. cancel-message-settled z b q f a h n r g)
-  keeps WaitForInterrupt = (frame-flag b c INTQ IWAT (inl refl), λ a w h m g. wait-settled z b q f h m g)
+  keeps WaitForInterrupt = (frame-flag b c INTQ IWAT (inl refl) queued posted, λ a w h m g. wait-settled z b q f h m g)
 
 -- ---- the claims
 -- a body leaves R1 to R6, and the lists that its move says
@@ -71,9 +79,10 @@ body-settles z b q f call a w h m g = keeps z b q f call .1 a w h m g
 
 -- it changes only the records that the call touches
 pub body-frame : BodyFrame
-body-frame z b q f call a h g = keeps z b q f call .0
+body-frame z b call = keeps z b [] (λ k. []) call .0
 
 -- dispatch changes only the running task and the message that it is handed
 pub dispatch-frame : DispatchFrame
-dispatch-frame z b q f a h e =
-    let c = running z b in frame-then (framed-take z b c) (frame-stat (takeFirst z b c) c _ (inl refl))
+dispatch-frame z b =
+    let c = running z b in
+    frame-then (frame-take z b c) (frame-clear (takeFirst z b c) c MHBS (inl refl) (isIn-in MHBS everyBit refl, inl refl))

@@ -2,7 +2,7 @@
 -- Assumes nothing.
 use mathlib.Core.Path.{_≡_, refl, sym, ap, ap₂, _∙_, fun-ext}
 use mathlib.Core.Bool.{Bool, true, false, true≢false}
-use mathlib.Core.List.{List}
+use mathlib.Core.List.{List, []}
 use Prim.Native.Nat.{ℕ}
 use borrow.Author.Tests.{ne-eqb}
 use Rattle.links.specs.Queue.{walk, firstOf, restOf, firstWith}
@@ -20,13 +20,13 @@ use Rattle.kept.specs.Touched.{changed}
 use Rattle.kept.specs.Claims.{Sizes}
 use Rattle.kept.proofs.Reading.{task-put, task-alike, order-walked}
 use Rattle.kept.proofs.Taking.{take-stat, due-queued, deliver-settled}
-use Rattle.kept.proofs.Framed.{framed-take}
+use Rattle.kept.proofs.Framed.{frame-take}
 use Rattle.linked.proofs.Running.{present-numbered, runner-says}
 
 -- ---- a message taken leaves who runs
 pub take-runs : (z : Size) (b : Board) (c : ℕ) → running z (takeFirst z b c) ≡ running z b
 take-runs z b c =
-    let f = framed-take z b c in
+    let f = frame-take z b c {bits = []} in
     ap₂ firstWith (fun-ext (λ k. ap isReady (take-stat z b c k)))
     (ap₂ (λ (next : ℕ → ℕ) (x : ℕ). walk next (z .messages) x) (fun-ext (f .links refl)) (f .first refl))
 

@@ -18,14 +18,14 @@ use Rattle.board.specs.declared.records.Message.{Message}
 use Rattle.board.specs.declared.places.Place.{Place}
 use Rattle.board.specs.declared.places.Place.the-variants.{Free}
 use Rattle.board.specs.Numbers.{outside}
-use Rattle.board.specs.Records.{wordAt, taskOf, taskBytes, noTask, messageOf, messageBytes, noMessage}
+use Rattle.board.specs.Records.{Byte, Word, wordAt, taskOf, taskBytes, noTask, messageOf, messageBytes, noMessage}
 use Rattle.board.specs.Places.{placeOf, placeByte, placeIn, placeBytes}
 use Rattle.board.specs.Board.{Area, Board, board, taskArea, messageArea, placeArea, cut, join, pieces, boardOf, bytesOf, nth}
+use Rattle.board.specs.Claims.{Bytes}
 use Rattle.board.proofs.Numbered.{nth-map}
 use Rattle.board.proofs.Pieces.{outside-within, nth-outside, length-pieces, piece-byte}
 use Rattle.board.proofs.Codec.{Small, small-at, task-back, message-back, length-tasks, length-messages, length-places}
-use Rattle.kept.specs.Settled.{Byte, Word, FitsTask, FitsMessage, Fits}
-use Rattle.kept.specs.Claims.{Bytes}
+use Rattle.kept.specs.Settled.{FitsTask, FitsMessage, Fits}
 use Rattle.kept.proofs.Reading.{cond-holds, FitsPlace}
 
 -- ---- records written one behind the other

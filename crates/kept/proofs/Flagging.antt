@@ -13,7 +13,7 @@ use Rattle.board.specs.declared.numbers.Size.{Size}
 use Rattle.board.specs.declared.status.Status.{Status}
 use Rattle.board.specs.declared.records.Task.{Task}
 use Rattle.board.specs.Status.{WAIT, IWAT, BIT5, INTQ, MHBS, TCBB, has, withBit, withoutBit, number}
-use Rattle.board.specs.Records.{noTask, taskWithStat}
+use Rattle.board.specs.Records.{Byte, noTask, taskWithStat}
 use Rattle.board.specs.Board.{Board, task, place, withTask}
 use Rattle.board.proofs.Bits.{withBit-other, withBit-small, withoutBit-has, withoutBit-other, withoutBit-small}
 use Rattle.paper.specs.declared.call.Call.the-variants.{PostInterrupt, WaitForInterrupt}
@@ -24,7 +24,7 @@ use Rattle.paper.specs.Refusals.{no3, no6, ownRow, Go, lowest}
 use Rattle.linked.specs.Linked.{Numbered}
 use Rattle.linked.specs.Sound.{Proper, Regular, Flags}
 use Rattle.linked.proofs.Running.{present-numbered, runner-says}
-use Rattle.kept.specs.Settled.{Byte, FitsTask, Fits, Settled}
+use Rattle.kept.specs.Settled.{FitsTask, Fits, Settled}
 use Rattle.kept.proofs.Reading.{cond-holds, nth-cases, task-put, task-other, task-alike, fits-task}
 use Rattle.kept.proofs.Reading.{listing-stays, listing-start, Lawful, present-proper, good-stays}
 use Rattle.kept.proofs.Reading.{go-passed, runner-passed, task-passed}

@@ -7,7 +7,7 @@ use mathlib.Core.List.{List, [], _∷_}
 use Prim.Native.Nat.{ℕ, zero, suc}
 use Rattle.links.specs.Queue.{walk, firstOf, restOf, goesBefore, insert, without}
 use Rattle.links.specs.Chain.{In, All}
-use Rattle.links.proofs.Members.{all-of}
+use Rattle.links.proofs.Members.{isIn-in, all-of}
 use Rattle.links.proofs.Insertion.{all-insert}
 use Rattle.links.proofs.Removal.{all-without, all-rest}
 use Rattle.board.specs.declared.numbers.Size.{Size}
@@ -18,14 +18,14 @@ use Rattle.board.specs.Records.{noTask, noMessage}
 use Rattle.board.specs.Board.{Board, task}
 use Rattle.board.proofs.Numbered.{nth-alike}
 use Rattle.paper.specs.declared.call.Call.{Call}
-use Rattle.paper.specs.declared.call.Call.the-variants.{Install, CancelTask, Release, Send, SendAndWait, Forward, ForwardAndWait, Receive, CancelMessage}
+use Rattle.paper.specs.declared.call.Call.the-variants.{Install, CancelTask, Release, Send, SendAndWait, Forward, ForwardAndWait, CancelMessage}
 use Rattle.paper.specs.Rules.{order, queue, emptyQueue, nextMessage, taskNumber}
-use Rattle.paper.specs.Changes.{sets, clears, linkMessage, hold}
+use Rattle.paper.specs.Changes.{sets, clears, linkMessage, hold, takeFirst}
 use Rattle.paper.specs.Effects.{queueWith, woken, emptied, placeAt, addressed, send, waits}
 use Rattle.paper.specs.Outcomes.{body}
-use Rattle.kept.specs.Touched.{touched, queueOf, relinks, Frame}
+use Rattle.kept.specs.Touched.{touched, everyBit, forMessages, queueOf, relinks, Frame}
 use Rattle.kept.proofs.Reading.{cond-holds}
-use Rattle.kept.proofs.Framing.{Linkable, frame-none, frame-then, frame-stat, frame-message, frame-place}
+use Rattle.kept.proofs.Framing.{Bit, Linkable, frame-none, frame-then, frame-set, frame-clear, frame-message, frame-place}
 use Rattle.kept.proofs.Framing.{frame-queue, frame-record, frame-order}
 
 -- ---- effects on the tasks ts, the messages ms and the queue q
@@ -35,43 +35,56 @@ walk-first next zero x = inl refl
 walk-first next (suc n) zero = inl refl
 walk-first next (suc n) (suc x) = inr (inl refl)
 
-module _ {ts ms q : List ℕ} where
+-- the bits of waiting for a message
+waiting : Bit forMessages WAIT
+waiting = (isIn-in WAIT everyBit refl, isIn-in WAIT forMessages refl)
+
+due : Bit forMessages MHBS
+due = (isIn-in MHBS everyBit refl, isIn-in MHBS forMessages refl)
+
+module _ {ts bits ms q : List ℕ} where
   -- a message comes into a task's hands
-  pub frame-hold : (b : Board) (c m : ℕ) → (m ≡ 0) ⊎ In m ms → Frame b (hold b c m) ts ms q false
+  frame-hold : (b : Board) (c m : ℕ) → (m ≡ 0) ⊎ In m ms → Frame b (hold b c m) ts bits ms q false
   frame-hold b c m i = frame-then (frame-message b m _ i) (frame-place (linkMessage b m 0) m _ i)
 
   -- a flag is cleared and another set, or neither
-  frame-flags : (b : Board) (r x y : ℕ) (t : Bool) → In r ts
-      → Frame b (cond t (sets (clears b r x) r y) b) ts ms q false
-  frame-flags b r x y t i =
-      cond-holds (λ (d : Board). Frame b d ts ms q false) t _ b
-      (λ e. frame-then (frame-stat b r _ i) (frame-stat (clears b r x) r _ i)) (λ e. frame-none b)
-
-  -- a task is woken
-  frame-woken : (b : Board) (r : ℕ) → In r ts → Frame b (woken b r) ts ms q false
-  frame-woken b r i = frame-flags b r WAIT MHBS (has (task b r .stat) WAIT) i
-
-  -- a task with none left waits again
-  frame-emptied : (b : Board) (r : ℕ) → In r ts → Frame b (emptied b r) ts ms q false
-  frame-emptied b r i = frame-flags b r MHBS WAIT (has (task b r .stat) MHBS && emptyQueue b r) i
+  frame-flags : (b : Board) (r x y : ℕ) (t : Bool) → In r ts → Bit bits x → Bit bits y
+      → Frame b (cond t (sets (clears b r x) r y) b) ts bits ms q false
+  frame-flags b r x y t i j k =
+      cond-holds (λ (d : Board). Frame b d ts bits ms q false) t _ b
+      (λ e. frame-then (frame-clear b r x i j) (frame-set (clears b r x) r y i k)) (λ e. frame-none b)
 
   -- a flag is cleared if it is there, else another is set
-  pub frame-flag : (b : Board) (k x y : ℕ) → In k ts
-      → Frame b (cond (has (task b k .stat) x) (clears b k x) (sets b k y)) ts ms q false
-  frame-flag b k x y i =
-      cond-holds (λ (d : Board). Frame b d ts ms q false) (has (task b k .stat) x) _ _ (λ e. frame-stat b k _ i)
-      (λ e. frame-stat b k _ i)
+  pub frame-flag : (b : Board) (k x y : ℕ) → In k ts → Bit bits x → Bit bits y
+      → Frame b (cond (has (task b k .stat) x) (clears b k x) (sets b k y)) ts bits ms q false
+  frame-flag b k x y i j n =
+      cond-holds (λ (d : Board). Frame b d ts bits ms q false) (has (task b k .stat) x) _ _ (λ e. frame-clear b k x i j)
+      (λ e. frame-set b k y i n)
+
+module _ {ts ms q : List ℕ} where
+  -- a task is woken
+  frame-woken : (b : Board) (r : ℕ) → In r ts → Frame b (woken b r) ts forMessages ms q false
+  frame-woken b r i = frame-flags b r WAIT MHBS (has (task b r .stat) WAIT) i waiting due
+
+  -- a task with none left waits again
+  frame-emptied : (b : Board) (r : ℕ) → In r ts → Frame b (emptied b r) ts forMessages ms q false
+  frame-emptied b r i = frame-flags b r MHBS WAIT (has (task b r .stat) MHBS && emptyQueue b r) i due waiting
+
+  -- a task waits
+  pub frame-waits : (b : Board) (c : ℕ) → In c ts → Frame b (waits c b) ts forMessages ms q false
+  frame-waits b c i =
+      frame-set b c _ i (cond-holds (Bit forMessages) (emptyQueue b c) WAIT MHBS (λ e. waiting) (λ e. due))
 
   -- a message is placed
   frame-place-at : (z : Size) (b : Board) (m r : ℕ) → In r ts → In m ms → All (Linkable ms q) (queue z b r)
-      → Frame b (placeAt z b m r) ts ms q false
+      → Frame b (placeAt z b m r) ts forMessages ms q false
   frame-place-at z b m r i j h =
       frame-then (frame-queue b r (queueWith z b m r) i (all-insert _ _ m (queue z b r) (inl j) h))
       (frame-then (frame-place _ m _ (inr j)) (frame-then (frame-message _ m _ (inr j)) (frame-woken _ r i)))
 
   -- a message is sent: addressed, it keeps its LINK
   frame-send : (z : Size) (b : Board) (c m r : ℕ) → In r ts → In m ms → All (Linkable ms q) (queue z b r)
-      → Frame b (send z b c m r) ts ms q false
+      → Frame b (send z b c m r) ts forMessages ms q false
   frame-send z b c m r i j h =
       let same : nextMessage b ≡ nextMessage (addressed b c m r) =
       fun-ext (λ y. sym (nth-alike (λ (t : Message). t .link) noMessage (b .messages) m y _ refl)) in
@@ -82,7 +95,7 @@ module _ {ts ms q : List ℕ} where
 module _ (z : Size) (b : Board) (c : ℕ) where
   abbrev pub Framed : Call → Type 0
   Framed call = let t = touched b c call in
-      Frame b (body z b c call .board) (t .tasks) (t .messages) (queue z b (queueOf (t .move))) (relinks (t .move))
+      Frame b (body z b c call .board) (t .tasks) (t .bits) (t .messages) (queue z b (queueOf (t .move))) (relinks (t .move))
 
   -- the messages of a queue may all be linked
   own-queue : (m r : ℕ) → All (Linkable (m ∷ []) (queue z b r)) (queue z b r)
@@ -102,9 +115,9 @@ module _ (z : Size) (b : Board) (c : ℕ) where
   framed-release m = frame-then (frame-message b m noMessage (inr (inl refl))) (frame-place _ m Free (inr (inl refl)))
 
   -- and the caller waits
-  framed-wait : (d : Board) (r : ℕ) (ms q : List ℕ) → Frame b d (r ∷ c ∷ []) ms q false
-      → Frame b (waits c d) (r ∷ c ∷ []) ms q false
-  framed-wait d r ms q f = frame-then f (frame-stat d c _ (inr (inl refl)))
+  framed-wait : (d : Board) (r : ℕ) (ms q : List ℕ) → Frame b d (r ∷ c ∷ []) forMessages ms q false
+      → Frame b (waits c d) (r ∷ c ∷ []) forMessages ms q false
+  framed-wait d r ms q f = frame-then f (frame-waits d c (inr (inl refl)))
 
   -- a message sent, and with the wait; so forward, and with it resend and return
   pub framed-send : (m r : ℕ) → Framed (Send m r)
@@ -120,8 +133,8 @@ module _ (z : Size) (b : Board) (c : ℕ) where
   framed-forward-wait m r = framed-wait _ r _ _ (frame-place-at z b m r (inl refl) (inl refl) (own-queue m r))
 
   -- a message taken, taken back
-  pub framed-take : Framed Receive
-  framed-take =
+  pub frame-take : {bits : List ℕ} → Frame b (takeFirst z b c) (c ∷ []) bits (task b c .mptr ∷ []) (queue z b c) false
+  frame-take =
       frame-then (frame-queue b c (restOf (queue z b c)) (inl refl) (all-rest _ (queue z b c) (own-queue (task b c .mptr) c)))
       (frame-hold _ c (firstOf (queue z b c)) (walk-first (nextMessage b) (z .messages) (task b c .mptr)))
 

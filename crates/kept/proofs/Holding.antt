@@ -16,7 +16,7 @@ use Rattle.board.specs.declared.places.Place.{Place}
 use Rattle.board.specs.declared.places.Place.the-variants.{Free, HeldBy, QueuedAt}
 use Rattle.board.specs.Numbers.{taskNo}
 use Rattle.board.specs.Status.{number}
-use Rattle.board.specs.Records.{noMessage}
+use Rattle.board.specs.Records.{Byte, Word, noMessage}
 use Rattle.board.specs.Places.{isQueued}
 use Rattle.board.specs.Board.{Board, task, message, place, withMessage, withPlace, put, withMessages, withPlaces}
 use Rattle.board.proofs.Codec.{place-held}
@@ -27,7 +27,7 @@ use Rattle.paper.specs.Refusals.{no14, ownRow, Go, lowest}
 use Rattle.linked.specs.Linked.{Listing, Numbered}
 use Rattle.linked.specs.Sound.{Pointers, PlaceGood}
 use Rattle.linked.proofs.Running.{present-numbered, placed-numbered, runner-says, lowest-free}
-use Rattle.kept.specs.Settled.{Byte, Word, FitsMessage, Fits, Settled, Fitting}
+use Rattle.kept.specs.Settled.{FitsMessage, Fits, Settled, Fitting}
 use Rattle.kept.specs.Claims.{Sizes}
 use Rattle.kept.proofs.Reading.{nth-cases, message-put, message-other, held-placed}
 use Rattle.kept.proofs.Reading.{FitsPlace, fits-message, fits-place, listing-stays, good-stays}

@@ -24,7 +24,7 @@ use Rattle.board.specs.declared.records.Message.{Message}
 use Rattle.board.specs.declared.places.Place.the-variants.{QueuedAt}
 use Rattle.board.specs.Numbers.{taskNo}
 use Rattle.board.specs.Status.{WAIT, IWAT, BIT5, INTQ, MHBS, TCBB, stored, has, number}
-use Rattle.board.specs.Records.{noTask, taskWithLink}
+use Rattle.board.specs.Records.{Word, noTask, taskWithLink}
 use Rattle.board.specs.Board.{Board, task, message, place, withTask}
 use Rattle.board.proofs.Numbered.{length-put}
 use Rattle.board.proofs.Pieces.{neither}
@@ -37,7 +37,7 @@ use Rattle.linked.specs.Linked.{Listing, Numbered}
 use Rattle.linked.specs.Sound.{Proper, PlaceGood}
 use Rattle.linked.proofs.Tests.{says-goodHead}
 use Rattle.linked.proofs.Running.{present-numbered}
-use Rattle.kept.specs.Settled.{Word, FitsTask, Fits, Settled, Fitting}
+use Rattle.kept.specs.Settled.{FitsTask, Fits, Settled, Fitting}
 use Rattle.kept.specs.Touched.{IntoOrder, orderAfter}
 use Rattle.kept.specs.Claims.{Sizes}
 use Rattle.kept.proofs.Reading.{nth-cases, task-put, task-other, task-alike, fits-first, fits-task}

@@ -22,14 +22,14 @@ use Rattle.board.specs.declared.places.Place.{Place}
 use Rattle.board.specs.declared.places.Place.the-variants.{QueuedAt}
 use Rattle.board.specs.Numbers.{taskNo}
 use Rattle.board.specs.Status.{number, fifo}
-use Rattle.board.specs.Records.{noTask, noMessage, taskWithMptr, withLink}
+use Rattle.board.specs.Records.{Word, noTask, noMessage, taskWithMptr, withLink}
 use Rattle.board.specs.Places.{placeByte}
 use Rattle.board.specs.Board.{Board, task, message, place, withMessage, withPlace}
 use Rattle.paper.specs.Rules.{present, isThere, nextTask, nextMessage, taskNumber, messageNumber}
 use Rattle.linked.specs.Linked.{Numbered, Listing}
 use Rattle.linked.specs.Sound.{Pointers, PlaceGood, Flags}
 use Rattle.linked.proofs.Running.{present-numbered, placed-numbered}
-use Rattle.kept.specs.Settled.{Word, FitsMessage, Fits, Settled}
+use Rattle.kept.specs.Settled.{FitsMessage, Fits, Settled}
 use Rattle.kept.specs.Touched.{changed}
 use Rattle.kept.specs.Claims.{Sizes}
 use Rattle.kept.proofs.Reading.{FitsPlace, Lawful, nth-cases, task-put, task-other, task-alike, message-put, place-put, place-other}

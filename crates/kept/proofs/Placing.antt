@@ -20,7 +20,7 @@ use Rattle.board.specs.declared.records.Message.{Message}
 use Rattle.board.specs.declared.places.Place.the-variants.{HeldBy, QueuedAt}
 use Rattle.board.specs.Numbers.{taskNo}
 use Rattle.board.specs.Status.{WAIT, IWAT, MHBS, TCBB, has, number, fifo, withFifo}
-use Rattle.board.specs.Records.{withPrio, withRptr, withSptr}
+use Rattle.board.specs.Records.{Byte, Word, withPrio, withRptr, withSptr}
 use Rattle.board.specs.Places.{placeByte, isQueued}
 use Rattle.board.specs.Board.{Board, task, message, place, withMessage, withPlace}
 use Rattle.board.proofs.Bits.{number-withFifo, fifo-withFifo, withFifo-small}
@@ -33,7 +33,7 @@ use Rattle.paper.specs.Refusals.{Test, no3, no4, no5, no6, no7, ownRow, Go, low
 use Rattle.linked.specs.Sound.{Pointers}
 use Rattle.linked.specs.Linked.{Numbered}
 use Rattle.linked.proofs.Running.{runner-says}
-use Rattle.kept.specs.Settled.{Byte, Word, Settled}
+use Rattle.kept.specs.Settled.{Settled}
 use Rattle.kept.specs.Touched.{IntoQueue, changed, queuesAfter}
 use Rattle.kept.specs.Claims.{Sizes}
 use Rattle.kept.proofs.Reading.{cond-holds, task-alike, message-put, message-other, place-put, present-proper}

@@ -19,7 +19,7 @@ use Rattle.board.specs.declared.records.Message.{Message}
 use Rattle.board.specs.declared.places.Place.{Place}
 use Rattle.board.specs.declared.places.Place.the-variants.{Free, HeldBy, QueuedAt, Nowhere}
 use Rattle.board.specs.Numbers.{outside, taskNo}
-use Rattle.board.specs.Records.{noTask, noMessage}
+use Rattle.board.specs.Records.{Byte, noTask, noMessage}
 use Rattle.board.specs.Places.{placeOf, placeByte, isFree, isHeldBy, isQueuedAt}
 use Rattle.board.specs.Board.{Board, nth, put, task, message, place, withFirst, withTasks, withMessages, withPlaces, withTask, withMessage, withPlace}
 use Rattle.board.proofs.Numbered.{nth-put, nth-put-other, nth-alike, length-put}
@@ -31,7 +31,7 @@ use Rattle.linked.specs.Linked.{Listing, Numbered}
 use Rattle.linked.specs.Sound.{Proper, PlaceGood}
 use Rattle.linked.proofs.Tests.{says-isQueuedAt, says-isHeldBy}
 use Rattle.linked.proofs.Listings.{listing-walk}
-use Rattle.kept.specs.Settled.{Byte, FitsTask, FitsMessage, Fits, Settled}
+use Rattle.kept.specs.Settled.{FitsTask, FitsMessage, Fits, Settled}
 
 -- ---- a choice
 -- what holds of both choices holds of the one taken

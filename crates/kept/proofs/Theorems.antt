@@ -1,4 +1,4 @@
--- Claims of specs/Claims, proved: dispatch is never stuck, and a board that passes goes on passing.
+-- Claims of specs/Claims, proved: dispatch is never stuck, a board that passes goes on passing, and every block is in one place.
 -- Assumes nothing.
 use mathlib.Core.Path.{_≡_, refl, sym, ap, _∙_, subst}
 use mathlib.Core.Logic.{_≢_}
@@ -7,12 +7,15 @@ use mathlib.Core.List.{List, _∷_}
 use Prim.Native.Nat.{ℕ}
 use native.Mathlib.Omega.{arith}
 use lib.Dec.{lit<, lit≤}
-use borrow.Author.Tests.{not-false}
+use lib.ListN.{getD}
+use borrow.Author.Tests.{eqb-true, not-false}
 use Rattle.links.specs.Queue.{firstWith}
 use Rattle.board.specs.declared.numbers.Size.{Size}
 use Rattle.board.specs.Numbers.{small}
 use Rattle.board.specs.Status.{MHBS, has}
+use Rattle.board.specs.Records.{Byte}
 use Rattle.board.specs.Board.{Board, boardOf, bytesOf, task}
+use Rattle.board.specs.Claims.{Bytes}
 use Rattle.paper.specs.declared.call.Call.{Call}
 use Rattle.paper.specs.declared.answer.Refusal.the-variants.{NothingToDeliver}
 use Rattle.paper.specs.declared.answer.Answer.{Answer}
@@ -20,13 +23,14 @@ use Rattle.paper.specs.declared.answer.Answer.the-variants.{Refused}
 use Rattle.paper.specs.Answers.{numberOf, handed}
 use Rattle.paper.specs.Rules.{ready, order, running, passes}
 use Rattle.paper.specs.Refusals.{no1, no2, ownRow, row, Verdict, Go, Stop, lowest}
-use Rattle.paper.specs.Outcomes.{Outcome, Undispatched, judge, body, dispatch, accepted}
-use Rattle.paper.proofs.Theorems.{row-below}
+use Rattle.paper.specs.Outcomes.{Outcome, Undispatched, judge, body, dispatch, accepted, effect}
+use Rattle.paper.proofs.Theorems.{row-below, accepted-passed}
 use Rattle.linked.specs.Sound.{Sound}
 use Rattle.linked.proofs.Boards.{says-passes}
+use Rattle.linked.proofs.Theorems.{one-whereabouts}
 use Rattle.kept.specs.Settled.{Fits, Settled, Fitting}
 use Rattle.kept.specs.Touched.{touched, orderAfter, queuesAfter}
-use Rattle.kept.specs.Claims.{Sizes, Bytes, NeverStuck, PassingStaysPassing}
+use Rattle.kept.specs.Claims.{Sizes, NeverStuck, PassingStaysPassing, EveryBlockOnce}
 use Rattle.kept.proofs.Reading.{order-walked, go-passed}
 use Rattle.kept.proofs.Fitting.{board-bytes, bytes-fit, fits-board}
 use Rattle.kept.proofs.Bodies.{body-settles}
@@ -68,7 +72,7 @@ module _ (z : Size) (b : Board) (a : Sizes z) (f : Fits z b) where
       })
 
 -- ---- a call, by the verdict of its row
-module _ (z : Size) (l : List ℕ) (call : Call) (a : Sizes z) (h : Bytes z l) (w : Fitting call) where
+module _ (z : Size) (l : List ℕ) (call : Call) (a : Sizes z) (h : (i : ℕ) → Byte (getD l i 0)) (w : Fitting call) where
   abbrev b : Board
   b = boardOf z l
 
@@ -80,7 +84,7 @@ module _ (z : Size) (l : List ℕ) (call : Call) (a : Sizes z) (h : Bytes z l) (
   went g =
       let long = go-passed (no1 z l) (no2 z b ∷ ownRow z b (running z b) call) g in
       let rules = go-passed (no2 z b) (ownRow z b (running z b) call) (long .1) in
-      let f = fits-board z l h in
+      let f = fits-board z l (record { long = eqb-true _ _ (not-false _ (long .0)); bytes = h }) in
       let s = passing-sound z b a f (not-false (passes z b) (rules .0)) in
       let t = walked-settled z b a f (s .order) (s .queues) (sound-settled z b a f s) in
       let move = touched b (running z b) call .move in
@@ -105,7 +109,7 @@ module _ (z : Size) (l : List ℕ) (call : Call) (a : Sizes z) (h : Bytes z l) (
   abbrev Passes : List ℕ → Type 0
   Passes k = Bytes z k × (passes z (boardOf z k) ≡ true)
 
-  passes-after : (v : Verdict) → lowest (row z l b (running z b) call) ≡ v → passes z b ≡ true → Passes (judge l v (dispatch z l d) .after)
+  passes-after : (v : Verdict) → lowest (row z l b (running z b) call) ≡ v → Passes l → Passes (judge l v (dispatch z l d) .after)
   passes-after Go e p =
       let t = went e in
       let f = t .settled .fits in
@@ -113,10 +117,18 @@ module _ (z : Size) (l : List ℕ) (call : Call) (a : Sizes z) (h : Bytes z l) (
         bytes-fit z (t .board) f (t .settled .regular .zeros),
         ap (passes z) (board-bytes z (t .board) f) ∙ settled-passes z (t .board) a f _ (t .queues) (t .settled) (t .runner),
       )
-  passes-after (Stop q) e p = (h, p)
+  passes-after (Stop q) e p = p
 
 pub never-stuck : NeverStuck
 never-stuck z l call a h w = by-verdict z l call a h w (lowest (row z l (boardOf z l) (running z (boardOf z l)) call)) refl
 
 pub passing-stays-passing : PassingStaysPassing
-passing-stays-passing z l call a h w p = passes-after z l call a h w (lowest (row z l (boardOf z l) (running z (boardOf z l)) call)) refl p
+passing-stays-passing z l call a h w p =
+    passes-after z l call a (h .bytes) w (lowest (row z l (boardOf z l) (running z (boardOf z l)) call)) refl (h, p)
+
+-- accepted, so the board passed; so it passes now; so each block is in one place
+pub every-block-once : EveryBlockOnce
+every-block-once z l call v c m a h w e =
+    let (long, passed) = accepted-passed z l .0 call v c m e in
+    one-whereabouts z (effect z l call .after) (a .limit)
+    (passing-stays-passing z l call a (record { long = long; bytes = h }) w passed .1)

@@ -1,26 +1,33 @@
 -- What calls keep, as statements; their proofs are in proofs/Bodies and proofs/Theorems. A reader must believe this file.
---   BodySettles         the body of a call that no refusal of its row stops leaves R1 to R6, and the lists that its move says
---   BodyFrame           it changes only the records that the call touches; DispatchFrame: dispatch only the running task and its message
---   NeverStuck          refusal 15 is given on no board that passes
---   PassingStaysPassing an accepted call on a board that passes leaves one that passes
+--   BodySettles         where the running task isn't due a message (R7), the body of a call that no refusal of its row stops leaves R1 to
+--                       R6, and the lists that its move says
+--   BodyFrame           a body changes only the records and the bits of STAT that the call touches; DispatchFrame: dispatch only the running
+--                       task, of its STAT MHBS alone, and the message that it is handed
+--   NeverStuck          refusal 15 is given on no board, whatever its bytes
+--   PassingStaysPassing a call on a board that passes leaves one that passes
+--   EveryBlockOnce      after an accepted call, on whatever bytes, every block is free, held by one present task, or in one queue once
 -- Assumes nothing.
 use mathlib.Core.Path.{_≡_}
 use mathlib.Core.Logic.{_≢_}
 use mathlib.Core.Bool.{true, false}
 use mathlib.Core.List.{List, [], _∷_}
 use Prim.Native.Nat.{ℕ, _≤_, _<_}
-use lib.ListN.{length, getD}
+use lib.ListN.{getD}
 use Rattle.board.specs.declared.numbers.Size.{Size}
 use Rattle.board.specs.Status.{MHBS, has}
-use Rattle.board.specs.Board.{Board, total, boardOf, task}
+use Rattle.board.specs.Records.{Byte}
+use Rattle.board.specs.Board.{Board, boardOf, task}
+use Rattle.board.specs.Claims.{Bytes}
 use Rattle.paper.specs.declared.call.Call.{Call}
 use Rattle.paper.specs.declared.answer.Refusal.the-variants.{NothingToDeliver}
-use Rattle.paper.specs.declared.answer.Answer.the-variants.{Refused}
+use Rattle.paper.specs.declared.answer.Answer.the-variants.{Accepted, Refused}
 use Rattle.paper.specs.Rules.{queue, running, passes}
 use Rattle.paper.specs.Changes.{clears, takeFirst}
 use Rattle.paper.specs.Refusals.{ownRow, Go, lowest}
 use Rattle.paper.specs.Outcomes.{body, effect}
-use Rattle.kept.specs.Settled.{Byte, Settled, Fitting}
+use Rattle.linked.specs.Linked.{Numbered}
+use Rattle.linked.specs.Claims.{Whereabouts}
+use Rattle.kept.specs.Settled.{Settled, Fitting}
 use Rattle.kept.specs.Touched.{touched, orderAfter, queuesAfter, queueOf, relinks, Frame}
 
 -- sizes for which a place byte tells held from queued and both from 128, links are words, and one limit serves both kinds of walk
@@ -35,31 +42,31 @@ BodySettles =
     → let c = running z b in has (task b c .stat) MHBS ≡ false → lowest (ownRow z b c call) ≡ Go
     → let move = touched b c call .move in Settled z (body z b c call .board) (orderAfter b order move) (queuesAfter b queues move)
 
--- ---- what else stays
+-- ---- what else stays, of any board
 abbrev pub BodyFrame : Type 0
 BodyFrame =
-    (z : Size) (b : Board) (order : List ℕ) (queues : ℕ → List ℕ) (call : Call) → Sizes z → Settled z b order queues
-    → let c = running z b in lowest (ownRow z b c call) ≡ Go
-    → let t = touched b c call in
-    Frame b (body z b c call .board) (t .tasks) (t .messages) (queue z b (queueOf (t .move))) (relinks (t .move))
+    (z : Size) (b : Board) (call : Call) → let c = running z b in let t = touched b c call in
+    Frame b (body z b c call .board) (t .tasks) (t .bits) (t .messages) (queue z b (queueOf (t .move))) (relinks (t .move))
 
 abbrev pub DispatchFrame : Type 0
 DispatchFrame =
-    (z : Size) (b : Board) (order : List ℕ) (queues : ℕ → List ℕ) → Sizes z → Settled z b order queues
-    → let c = running z b in has (task b c .stat) MHBS ≡ true
-    → Frame b (clears (takeFirst z b c) c MHBS) (c ∷ []) (task b c .mptr ∷ []) (queue z b c) false
+    (z : Size) (b : Board) → let c = running z b in
+    Frame b (clears (takeFirst z b c) c MHBS) (c ∷ []) (MHBS ∷ []) (task b c .mptr ∷ []) (queue z b c) false
 
 -- ---- histories of a board
--- a list of bytes of the board's length
-pub record Bytes (z : Size) (l : List ℕ) : Type 0 where
-  pub long : length l ≡ total z
-  pub bytes : (i : ℕ) → Byte (getD l i 0)
-
 abbrev pub NeverStuck : Type 0
 NeverStuck =
-    (z : Size) (l : List ℕ) (call : Call) → Sizes z → Bytes z l → Fitting call → effect z l call .answer ≢ Refused NothingToDeliver
+    (z : Size) (l : List ℕ) (call : Call) → Sizes z → ((i : ℕ) → Byte (getD l i 0)) → Fitting call
+    → effect z l call .answer ≢ Refused NothingToDeliver
 
 abbrev pub PassingStaysPassing : Type 0
 PassingStaysPassing =
     (z : Size) (l : List ℕ) (call : Call) → Sizes z → Bytes z l → Fitting call → passes z (boardOf z l) ≡ true
     → let o = effect z l call in Bytes z (o .after) × (passes z (boardOf z (o .after)) ≡ true)
+
+-- ---- demand 2, its last sentence
+abbrev pub EveryBlockOnce : Type 0
+EveryBlockOnce =
+    (z : Size) (l : List ℕ) (call : Call) (v c m : ℕ) → Sizes z → ((i : ℕ) → Byte (getD l i 0)) → Fitting call
+    → let o = effect z l call in o .answer ≡ Accepted v c m
+    → (n : ℕ) → Numbered (z .messages) n → Whereabouts z (boardOf z (o .after)) n

@@ -6,24 +6,19 @@
 -- Assumes nothing.
 use mathlib.Core.Path.{_≡_}
 use mathlib.Core.List.{List}
-use Prim.Native.Nat.{ℕ, _<_}
+use Prim.Native.Nat.{ℕ}
 use lib.ListN.{length}
 use Rattle.links.specs.Chain.{All}
 use Rattle.board.specs.declared.numbers.Size.{Size}
 use Rattle.board.specs.declared.records.Task.{Task}
 use Rattle.board.specs.declared.records.Message.{Message}
+use Rattle.board.specs.Records.{Byte, Word}
 use Rattle.board.specs.Places.{placeOf, placeByte}
 use Rattle.board.specs.Board.{Board, task, message, place}
 use Rattle.paper.specs.declared.call.Call.{Call}
 use Rattle.paper.specs.Arguments.{argumentsOf}
 use Rattle.linked.specs.Linked.{Numbered}
 use Rattle.linked.specs.Sound.{Regular, Flags}
-
-abbrev pub Byte : ℕ → Type 0
-Byte x = x < 256
-
-abbrev pub Word : ℕ → Type 0
-Word x = x < 65536
 
 pub record FitsTask (t : Task) : Type 0 where
   pub stat : Byte (t .stat .0)

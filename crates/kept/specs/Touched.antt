@@ -1,13 +1,15 @@
 -- What a call touches, one row a call: its body changes nothing else, and the lists of the board afterwards follow from its one move. A
 -- reader of the promises about calls must believe this file.
 --   touched b c call     the records that the body may change, and its move; c is the running task
---     tasks              of these STAT and MPTR may change; of the one installed or cancelled every field may
+--     tasks              of these MPTR and STAT may change; of the one installed or cancelled every field may
+--     bits               of their STAT only these bits may change
 --     messages           of these the fields and the place may change
 --     move               a task or a message that goes into or out of a list of links, with its PRIO byte p
 --   changed f k q        the function f with q at k
 --   orderAfter, queuesAfter   the lists after a move, from the lists before it: what demand 3's plain machine is compared with
 --   queueOf move         the task in whose queue LINKs may change, 0 for none
 --   relinks move         LINKs of tasks and byte 0 may change
+--   SameBut bits s u     the statuses s and u have the same bits but for these
 --   Frame b d ..         the board d is b but for those
 -- Assumes nothing.
 use mathlib.Core.Path.{_≡_}
@@ -16,8 +18,9 @@ use mathlib.Core.List.{List, [], _∷_, _++_}
 use Prim.Native.Nat.{ℕ}
 use lib.Dec.{eqb}
 use Rattle.links.specs.Queue.{goesBefore, insert, without}
-use Rattle.links.specs.Chain.{Out}
-use Rattle.board.specs.Status.{number, fifo}
+use Rattle.links.specs.Chain.{In, Out}
+use Rattle.board.specs.declared.status.Status.{Status}
+use Rattle.board.specs.Status.{WAIT, IWAT, BIT5, INTQ, DEBUG, MROB, MHBS, TCBB, has, number, fifo}
 use Rattle.board.specs.Records.{taskWithLink, withLink}
 use Rattle.board.specs.Board.{Board, task, message, place}
 use Rattle.paper.specs.declared.call.Call.{Call}
@@ -36,15 +39,27 @@ pub data Move : Type 0 where
 
 pub record Touched : Type 0 where
   pub tasks : List ℕ
+  pub bits : List ℕ
   pub messages : List ℕ
   pub move : Move
 
-abbrev pub touches : List ℕ → List ℕ → Move → Touched
-touches ts ms move = record { tasks = ts; messages = ms; move = move }
+abbrev pub touches : List ℕ → List ℕ → List ℕ → Move → Touched
+touches ts bits ms move = record { tasks = ts; bits = bits; messages = ms; move = move }
 
+-- ---- the bits of STAT: all, those of waiting for a message, those of interrupts
+abbrev pub everyBit : List ℕ
+everyBit = WAIT ∷ IWAT ∷ BIT5 ∷ INTQ ∷ DEBUG ∷ MROB ∷ MHBS ∷ TCBB ∷ []
+
+abbrev pub forMessages : List ℕ
+forMessages = WAIT ∷ MHBS ∷ []
+
+abbrev pub forInterrupts : List ℕ
+forInterrupts = IWAT ∷ INTQ ∷ []
+
+-- ---- the table
 -- m goes with PRIO p into the queue of r
 abbrev pub places : ℕ → ℕ → ℕ → Touched
-places m p r = touches (r ∷ []) (m ∷ []) (IntoQueue m p r)
+places m p r = touches (r ∷ []) forMessages (m ∷ []) (IntoQueue m p r)
 
 -- a message that is sent may take the caller's priority; others keep theirs
 abbrev pub sends : Board → ℕ → ℕ → ℕ → Touched
@@ -55,16 +70,16 @@ passesOn b m r = places m (message b m .prio) r
 
 -- and the caller waits
 abbrev pub andWaits : ℕ → Touched → Touched
-andWaits c t = touches (t .tasks ++ (c ∷ [])) (t .messages) (t .move)
+andWaits c t = touches (t .tasks ++ (c ∷ [])) (t .bits) (t .messages) (t .move)
 
 abbrev pub touched : Board → ℕ → Call → Touched
-touched b c (Install k s p sptr name) = touches (k ∷ []) [] (IntoOrder k p)
-touched b c (PostInterrupt k) = touches (k ∷ []) [] Stay
-touched b c (Find name) = touches [] [] Stay
-touched b c (CancelTask k) = touches (k ∷ []) [] (OutOfOrder k)
-touched b c Claim = touches [] (lowestFree b ∷ []) Stay
-touched b c (Prepare m s p sptr) = touches [] (m ∷ []) Stay
-touched b c (Release m) = touches [] (m ∷ []) Stay
+touched b c (Install k s p sptr name) = touches (k ∷ []) everyBit [] (IntoOrder k p)
+touched b c (PostInterrupt k) = touches (k ∷ []) forInterrupts [] Stay
+touched b c (Find name) = touches [] [] [] Stay
+touched b c (CancelTask k) = touches (k ∷ []) everyBit [] (OutOfOrder k)
+touched b c Claim = touches [] [] (lowestFree b ∷ []) Stay
+touched b c (Prepare m s p sptr) = touches [] [] (m ∷ []) Stay
+touched b c (Release m) = touches [] [] (m ∷ []) Stay
 touched b c (Send m r) = sends b c m r
 touched b c (SendAndWait m r) = andWaits c (sends b c m r)
 touched b c (Resend m) = passesOn b m (message b m .rptr)
@@ -73,10 +88,10 @@ touched b c (Forward m r) = passesOn b m r
 touched b c (ForwardAndWait m r) = andWaits c (passesOn b m r)
 touched b c (Return m) = passesOn b m (message b m .sptr)
 touched b c (ReturnAndWait m) = andWaits c (passesOn b m (message b m .sptr))
-touched b c Receive = touches (c ∷ []) (task b c .mptr ∷ []) (OutOfQueue (task b c .mptr) c)
-touched b c ReceiveAndWait = touches (c ∷ []) [] Stay
-touched b c (CancelMessage m r) = touches (r ∷ []) (m ∷ []) (OutOfQueue m r)
-touched b c WaitForInterrupt = touches (c ∷ []) [] Stay
+touched b c Receive = touches (c ∷ []) [] (task b c .mptr ∷ []) (OutOfQueue (task b c .mptr) c)
+touched b c ReceiveAndWait = touches (c ∷ []) forMessages [] Stay
+touched b c (CancelMessage m r) = touches (r ∷ []) forMessages (m ∷ []) (OutOfQueue m r)
+touched b c WaitForInterrupt = touches (c ∷ []) forInterrupts [] Stay
 
 -- ---- the lists after a move
 abbrev pub changed : (ℕ → List ℕ) → ℕ → List ℕ → ℕ → List ℕ
@@ -113,8 +128,13 @@ relinks (OutOfOrder k) = true
 relinks (IntoQueue m p r) = false
 relinks (OutOfQueue m r) = false
 
--- d is b but for the tasks ts, the messages ms, LINKs in the queue q (a list of messages), and, where order says so, LINKs of tasks
-pub record Frame (b d : Board) (ts ms q : List ℕ) (order : Bool) : Type 0 where
+-- ---- all else stays
+abbrev pub SameBut : List ℕ → Status → Status → Type 0
+SameBut bits s u = (bit : ℕ) → In bit everyBit → Out bit bits → has s bit ≡ has u bit
+
+-- d is b but for the tasks ts, with those bits of STAT, the messages ms, LINKs in the queue q (a list of messages), and, where order says
+-- so, LINKs of tasks
+pub record Frame (b d : Board) (ts bits ms q : List ℕ) (order : Bool) : Type 0 where
   pub byte1 : d .byte1 ≡ b .byte1
   pub zeros : d .zeros ≡ b .zeros
   pub first : order ≡ false → d .first ≡ b .first
@@ -122,6 +142,7 @@ pub record Frame (b d : Board) (ts ms q : List ℕ) (order : Bool) : Type 0 wher
   pub links : order ≡ false → (k : ℕ) → task d k .link ≡ task b k .link
   pub fields : order ≡ false → (k : ℕ)
       → (task d k .prio ≡ task b k .prio) × (task d k .sptr ≡ task b k .sptr) × (task d k .name ≡ task b k .name)
+  pub stat : (k : ℕ) → SameBut bits (task d k .stat) (task b k .stat)
   pub messages : (m : ℕ) → Out m ms → message d m ≡ withLink (message b m) (message d m .link)
   pub queue : (m : ℕ) → Out m ms → Out m q → message d m ≡ message b m
   pub places : (m : ℕ) → Out m ms → place d m ≡ place b m

@@ -1,11 +1,13 @@
--- Two tests at once, and a test of each number from 1 to n.
+-- Two tests at once, a test of each number from 1 to n, and one of each in a list.
 -- Assumes nothing.
 use mathlib.Core.Path.{_≡_, refl, sym, ap, _∙_}
 use mathlib.Core.Bool.{Bool, true, false, _&&_, true≢false}
+use mathlib.Core.List.{List, [], _∷_}
 use Prim.Native.Nat.{ℕ, zero, suc, _≤_}
 use native.Mathlib.Omega.{arith}
 use native.Mathlib.Decide.{ℕ-discrete}
 use Rattle.links.specs.Queue.{each}
+use Rattle.links.specs.Chain.{All}
 
 -- ---- two tests
 -- where both together pass, each passes
@@ -32,3 +34,13 @@ pub each-all : (f : ℕ → Bool) (n : ℕ) → ((k : ℕ) → 1 ≤ k → k ≤
 each-all f zero h = refl
 each-all f (suc n) h =
     and-true (each f n) (f (suc n)) (each-all f n (λ k g i. h k g (omega arith))) (h (suc n) (omega arith) (omega arith))
+
+-- ---- each in a list
+abbrev pub every : {A : Type 0} → (A → Bool) → List A → Bool
+every test [] = true
+every test (x ∷ l) = test x && every test l
+
+-- what passes for each holds of all
+pub every-all : {A : Type 0} (test : A → Bool) (l : List A) → every test l ≡ true → All (λ x. test x ≡ true) l
+every-all test [] e = tt
+every-all test (x ∷ l) e = let r = both (test x) (every test l) e in (r .0, every-all test l (r .1))

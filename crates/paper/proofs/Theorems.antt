@@ -9,7 +9,7 @@ use lib.ListN.{getD}
 use lib.Dec.{eqb, ltb}
 use borrow.Author.Tests.{ltb-true, eqb-true, not-false}
 use Rattle.links.specs.Chain.{In}
-use Rattle.links.proofs.Bools.{both}
+use Rattle.links.proofs.Bools.{both, every}
 use Rattle.board.specs.declared.numbers.Size.{Size}
 use Rattle.board.specs.Status.{MHBS, has}
 use Rattle.board.specs.Board.{Board, boardOf, bytesOf, task}
@@ -109,10 +109,6 @@ given-lowest n (s ∷ tests) h = go (s .applies) refl (given-lowest _ tests (asc
     go false e g = behind (lowest tests) e g
 
 -- what each of a list passes, and any other, the one at i passes
-abbrev every : (Call → Bool) → List Call → Bool
-every test [] = true
-every test (x ∷ l) = test x && every test l
-
 every-at : (test : Call → Bool) (l : List Call) (other : Call) → test other ≡ true → every test l ≡ true → (i : ℕ)
     → test (getD l i other) ≡ true
 every-at test [] other o h i = o

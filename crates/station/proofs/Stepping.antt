@@ -8,6 +8,7 @@ use lib.Dec.{eqb}
 use Rattle.board.specs.declared.numbers.TaskMeant.{TaskMeant}
 use Rattle.board.specs.Numbers.{small}
 use Rattle.board.specs.Board.{Board, boardOf, total}
+use Rattle.board.specs.Claims.{Bytes}
 use Rattle.board.proofs.Codec.{Small, small-bytes}
 use Rattle.paper.specs.declared.call.Call.{Call}
 use Rattle.paper.specs.declared.answer.Answer.{Answer}
@@ -17,7 +18,6 @@ use Rattle.paper.specs.Rules.{running}
 use Rattle.paper.specs.Refusals.{no1, no2, ownRow, Verdict}
 use Rattle.paper.specs.Outcomes.{Outcome, Ends, judge, body, dispatch, effect}
 use Rattle.kept.specs.Settled.{Fitting}
-use Rattle.kept.specs.Claims.{Bytes}
 use Rattle.kept.proofs.Theorems.{small-sizes}
 use Rattle.stores.specs.Answers.{Runs}
 use Rattle.stores.specs.Calls.{called}

@@ -12,6 +12,7 @@ use Rattle.board.specs.declared.status.Status.{Status}
 use Rattle.board.specs.declared.records.Task.{Task}
 use Rattle.board.specs.Status.{MHBS, has}
 use Rattle.board.specs.Board.{Board, total, boardOf, bytesOf, task}
+use Rattle.board.specs.Claims.{Bytes}
 use Rattle.board.proofs.Codec.{Small, bytes-board}
 use Rattle.paper.specs.declared.call.Call.{Call}
 use Rattle.paper.specs.declared.answer.Refusal.the-variants.{NothingToDeliver}
@@ -21,7 +22,7 @@ use Rattle.paper.specs.Refusals.{ownRow, Verdict, Go, Stop, lowest}
 use Rattle.paper.specs.Outcomes.{Outcome, Undispatched, undispatched, accepted, refused, judge, body, deliver, dispatch, effect}
 use Rattle.paper.proofs.Rows.{row-own}
 use Rattle.linked.proofs.Running.{runner-says}
-use Rattle.kept.specs.Claims.{Sizes, Bytes}
+use Rattle.kept.specs.Claims.{Sizes}
 use Rattle.kept.specs.Settled.{Settled, Fitting}
 use Rattle.kept.specs.Touched.{Touched, touched, orderAfter, queuesAfter}
 use Rattle.kept.proofs.Fitting.{fits-board}
