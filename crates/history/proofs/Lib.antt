@@ -17,3 +17,4 @@ pub mod Steps
 pub mod Fresh
 pub mod Theorems
 pub mod Coded
+mod Cases

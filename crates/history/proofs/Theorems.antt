@@ -1,22 +1,18 @@
 -- The claims of specs/Claims, proved: the ranking is one, and the links agree with the history.
 -- Assumes nothing.
-use mathlib.Core.Path.{_≡_, refl, sym, ap₂, subst}
+use mathlib.Core.Path.{_≡_, refl, sym, ap₂}
 use mathlib.Core.List.{List, [], _∷_}
 use Prim.Native.Nat.{ℕ}
 use Rattle.board.specs.declared.numbers.Size.{Size}
 use Rattle.board.specs.Board.{Board, boardOf}
 use Rattle.paper.specs.declared.call.Call.{Call}
-use Rattle.paper.specs.Rules.{order}
 use Rattle.paper.specs.Outcomes.{effect}
 use Rattle.paper.specs.History as bytes
 use Rattle.kept.specs.Settled.{AllFit}
 use Rattle.kept.specs.Claims.{Sizes}
-use Rattle.kept.proofs.Reading.{order-walked, queue-walked}
-use Rattle.history.specs.Ranking.{keep, Names}
 use Rattle.history.specs.Machine.{Plain, start, step}
 use Rattle.history.specs.Claims.{OneRanking, Agrees, past, LinksAgree}
 use Rattle.history.proofs.Ranks as ranks
-use Rattle.history.proofs.Listed.{isAt}
 use Rattle.history.proofs.Asked.{asked-running, is-where}
 use Rattle.history.proofs.Same.{same-holds}
 use Rattle.history.proofs.Steps.{Agreeing, call-agrees}
@@ -34,13 +30,15 @@ agreeing-agrees z a l p t =
     let b : Board = boardOf z l in
     let q = t .order in
     let f = t .queues in
+    let linked = t .settled .regular .linked in
     same-holds z b q f p (Agrees z l) (t .same) (λ i s n w. record {
+      sound = t .sound;
       tasks = λ k. refl;
       messages = λ m. refl;
       places = λ m. is-where z b q f (t .settled) m;
       times = (w .tasks .times, w .messages .times);
-      order = subst (Names i) (sym (order-walked z b q f (t .settled) (a .limit))) (w .order);
-      queues = λ k d. subst (Names (keep (isAt k) s)) (sym (queue-walked z b q f (t .settled) k d)) (w .queues k d);
+      order = record { numbers = q; names = w .order; chain = linked .tasks .chain };
+      queues = λ k d. record { numbers = f k; names = w .queues k d; chain = linked .messages k d .chain };
       runs = sym (asked-running z b q f a (t .settled) i s n w);
     })
 

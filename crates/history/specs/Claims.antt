@@ -1,17 +1,20 @@
 -- Demand 3 as statements; their proofs are in proofs/Theorems, that of CodeAgrees in proofs/Coded. A reader must believe this file.
 --   OneRanking           of entries made at different times exactly one list is the ranking
---   Agrees z l p         the bytes l and the plain machine p agree: the links list the rankings, every other field is the machine's, and
---                        the running task is the machine's
+--   LinksRank next x l   the links from x are exactly the ranking of the entries l, and then 0
+--   Agrees z l p         the bytes l and the plain machine p agree: the board passes, the links from byte 0 and from each MPTR are the
+--                        rankings, every other field is the machine's, and the running task is the machine's
 --   past z p calls       the machine after these calls, and its answers
 --   LinksAgree           whatever calls are made from the fresh board, all answers agree, one by one, and afterwards the bytes agree
 --   Made l calls as d    a program was handed the answers as for these calls and left d of l, each call as the contract of the step says
 --   CodeAgrees           so it is with every program that meets the contracts of fresh and of the step (Rattle.station, src/lib.rt)
 -- Assumes nothing.
 use mathlib.Core.Path.{_≡_}
+use mathlib.Core.Bool.{true}
 use mathlib.Core.List.{List, [], _∷_}
 use Prim.Native.Nat.{ℕ}
 use lib.ListN.{length}
 use lib.Dec.{eqb}
+use Rattle.links.specs.Chain.{Chain}
 use Rattle.board.specs.declared.numbers.Size.{Size}
 use Rattle.board.specs.declared.records.Task.{Task}
 use Rattle.board.specs.declared.records.Message.{Message}
@@ -21,7 +24,7 @@ use Rattle.board.specs.Numbers.{small}
 use Rattle.board.specs.Board.{boardOf, total, task, message, place}
 use Rattle.paper.specs.declared.call.Call.{Call}
 use Rattle.paper.specs.declared.answer.Answer.{Answer}
-use Rattle.paper.specs.Rules.{order, queue}
+use Rattle.paper.specs.Rules.{nextTask, nextMessage, passes}
 use Rattle.paper.specs.Rules as rules
 use Rattle.paper.specs.Outcomes.{blank, Ends, effect, fresh}
 use Rattle.paper.specs.History as bytes
@@ -53,13 +56,20 @@ IsWhere (places.HeldBy k) w = w ≡ Held (k .0)
 IsWhere (places.QueuedAt k) w = w ≡ Queued (k .0)
 IsWhere (places.Nowhere p) w = ⊥
 
+pub record LinksRank (next : ℕ → ℕ) (x : ℕ) (l : List Entry) : Type 0 where
+  pub numbers : List ℕ
+  pub names : Names l numbers
+  pub chain : Chain next x numbers
+
 pub record Agrees (z : Size) (l : List ℕ) (p : Plain) : Type 0 where
+  pub sound : passes z (boardOf z l) ≡ true
   pub tasks : (k : ℕ) → sheetOf (task (boardOf z l) k) ≡ p .sheets k
   pub messages : (m : ℕ) → blockOf (message (boardOf z l) m) ≡ p .blocks m
   pub places : (m : ℕ) → IsWhere (place (boardOf z l) m) (p .whose m)
   pub times : DifferentTimes (p .installs) × DifferentTimes (p .placements)
-  pub order : Names (p .installs) (order z (boardOf z l))
-  pub queues : (k : ℕ) → Numbered (z .tasks) k → Names (keep (λ e. eqb (e .at) k) (p .placements)) (queue z (boardOf z l) k)
+  pub order : LinksRank (nextTask (boardOf z l)) (boardOf z l .first) (p .installs)
+  pub queues : (k : ℕ) → Numbered (z .tasks) k
+      → LinksRank (nextMessage (boardOf z l)) (task (boardOf z l) k .mptr) (keep (λ e. eqb (e .at) k) (p .placements))
   pub runs : rules.running z (boardOf z l) ≡ running p
 
 -- ---- histories

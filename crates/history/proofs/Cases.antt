@@ -1,0 +1,58 @@
+-- Demand 3 rejects a version that links the first message of a queue and only claims to link the rest: a worked case on a board of three
+-- tasks and four messages. Assumes nothing.
+use mathlib.Core.Path.{_≡_, refl, sym, ap, _∙_, subst}
+use mathlib.Core.Logic.{inl, inr}
+use mathlib.Core.Bool.{true}
+use mathlib.Core.List.{List, [], _∷_, map}
+use Prim.Native.Nat.{ℕ}
+use native.Mathlib.Omega.{arith}
+use lib.Dec.{lit≤}
+use Rattle.links.specs.Chain.{In, Chain}
+use Rattle.board.specs.declared.numbers.Size.{Size}
+use Rattle.board.specs.Board.{boardOf, bytesOf}
+use Rattle.paper.specs.declared.call.Call.{Call}
+use Rattle.paper.specs.declared.call.Call.the-variants.{Install, Claim, Prepare, Send}
+use Rattle.paper.specs.Rules.{nextMessage}
+use Rattle.paper.specs.Changes.{linkMessage}
+use Rattle.paper.specs.Outcomes.{blank}
+use Rattle.paper.specs.History.{run}
+use Rattle.history.specs.Ranking.{Entry, Ranking}
+use Rattle.history.specs.Machine.{Plain, start}
+use Rattle.history.specs.Claims.{Agrees, past}
+
+abbrev tiny : Size
+tiny = record { tasks = 3; messages = 4 }
+
+-- task 1 sends itself messages 1 and 2, the first the more urgent
+abbrev calls : List Call
+calls =
+    Install 1 0x01 0x31 0 0 ∷ Claim ∷ Claim ∷ Prepare 1 0 0x15 0 ∷ Prepare 2 0 0x17 0 ∷ Send 1 1 ∷ Send 2 1 ∷ []
+
+abbrev machine : Plain
+machine = past tiny start calls .plain
+
+-- the bytes afterwards, but for LINK of message 1: MPTR leads to it, and it leads to no other
+abbrev onlyFirst : List ℕ
+onlyFirst = bytesOf (linkMessage (boardOf tiny (run tiny (blank tiny) calls .after)) 1 0)
+
+-- the two placements of the machine
+abbrev placed : ℕ → ℕ → ℕ → Entry
+placed m number time = record { id = m; at = 1; number = number; fifo = true; time = time }
+
+abbrev both : List Entry
+both = placed 1 10 1 ∷ placed 2 11 2 ∷ []
+
+-- links that end at message 1 aren't the ranking of both
+alone : (next : ℕ → ℕ) → next 1 ≡ 0 → (q : List Entry) → Ranking both q → Chain next 1 (map (λ e. e .id) q) → ⊥
+alone next end [] r c = absurd (omega arith)
+alone next end (x ∷ []) r c = second (r .same (placed 2 11 2) .1 (inr (inl refl)))
+  where
+    second : In (placed 2 11 2) (x ∷ []) → ⊥
+    second (inl e) = let i : 2 ≡ x .id = ap (λ (y : Entry). y .id) e in absurd (omega arith)
+alone next end (x ∷ y ∷ q) r (e, n, (f, o, c)) = o (sym f ∙ ap next (sym e) ∙ end)
+
+case-only-the-first-linked : Agrees tiny onlyFirst machine → ⊥
+case-only-the-first-linked h =
+    let r = h .queues 1 (lit≤ tt, lit≤ tt) in
+    let next : ℕ → ℕ = nextMessage (boardOf tiny onlyFirst) in
+    alone next refl (r .names .list) (r .names .ranking) (subst (Chain next 1) (r .names .names) (r .chain))
