@@ -13,21 +13,14 @@ use lib.ListN.{length, getD}
 use Rattle.board.specs.declared.numbers.Size.{Size}
 use Rattle.board.specs.declared.status.Status.{Status}
 use Rattle.board.specs.declared.records.Task.{Task}
-use Rattle.board.specs.Status.{withoutBit}
-use Rattle.board.specs.Records.{taskWithStat}
+use Rattle.board.specs.Status.{DEBUG, MROB, withoutBit}
+use Rattle.board.specs.Records.{Byte, taskWithStat}
 use Rattle.board.specs.Board.{Board, boardOf, withTasks}
 use Rattle.paper.specs.declared.call.Call.{Call}
 use Rattle.paper.specs.Rules.{isThere}
 use Rattle.paper.specs.Outcomes.{effect, check}
-use Rattle.kept.specs.Settled.{Byte, Fitting}
+use Rattle.kept.specs.Settled.{Fitting}
 use Rattle.kept.specs.Claims.{Sizes}
-
--- to be moved to board, Status
-abbrev pub DEBUG : ℕ
-DEBUG = 8
-
-abbrev pub MROB : ℕ
-MROB = 4
 
 abbrev pub bare : Status → Status
 bare s = withoutBit (withoutBit s DEBUG) MROB
