@@ -35,8 +35,8 @@ module _ (t : Task) where
   pub same-bare : {A : Type 0} (f : Task → A) → f (taskWithStat t (bare (t .stat))) ≡ f t → f (bareTask t) ≡ f t
   same-bare f e = cond-holds (λ x. f x ≡ f t) (isThere t) _ _ (λ p. e) (λ p. refl)
 
-  pub has-bare : (bit : ℕ) → Other bit → has (bareTask t .stat) bit ≡ has (t .stat) bit
-  has-bare bit o = same-bare (λ t. has (t .stat) bit) (o .reads (t .stat))
+  pub there-bare : isThere (bareTask t) ≡ isThere t
+  there-bare = same-bare isThere (tcbb .reads (t .stat))
 
   -- R2
   pub good-bare : goodTask (bareTask t) ≡ goodTask t
