@@ -31,6 +31,12 @@ agree : (f g : ℕ → ℕ) → ((n : ℕ) → f n ≡ f (n % 256)) → ((n : �
 agree f g low ground e n =
     low n ∙ eqb-true _ _ (below-at (λ x. eqb (f x) (g x)) 256 e (n % 256) (mod-lt n (lit< tt))) ∙ sym (ground n)
 
+-- cleared twice is cleared once
+pub bare-bare : (s : Status) → bare (bare s) ≡ bare s
+bare-bare s =
+    ap stored (agree (λ n. bare (bare (stored n)) .0) (λ n. bare (stored n) .0) (λ n. ap (λ (s : Status). bare s .0) (bare-low n))
+    (λ n. ap (λ (s : Status). s .0) (bare-low n)) refl (s .0))
+
 -- ---- one bit
 module _ (bit : ℕ) where
   abbrev read : ℕ → ℕ

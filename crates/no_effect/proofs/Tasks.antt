@@ -12,7 +12,7 @@ use Rattle.board.specs.Records.{taskWithStat, taskWithLink, taskWithMptr}
 use Rattle.paper.specs.Rules.{isThere, goodHead, goodTask, goodFlags}
 use Rattle.kept.proofs.Reading.{cond-holds}
 use Rattle.no_effect.specs.Claims.{bare, bareTask}
-use Rattle.no_effect.proofs.Bits.{Other, wait, iwat, bit5, intq, mhbs, tcbb}
+use Rattle.no_effect.proofs.Bits.{bare-bare, wait, iwat, bit5, intq, mhbs, tcbb}
 
 -- ---- a status
 -- what the rules and dispatch ask of it
@@ -45,6 +45,12 @@ module _ (t : Task) where
       there : isThere t ≡ true → goodTask (taskWithStat t (bare (t .stat))) ≡ goodTask t
       there p =
           rw (present-stat (t .stat) p, present-stat (bare (t .stat)) (tcbb .reads (t .stat) ∙ p)) (head-bare (t .stat) (t .prio))
+
+  -- cleared twice is cleared once
+  pub bare-twice : bareTask (bareTask t) ≡ bareTask t
+  bare-twice =
+      cond-holds (λ x. bareTask x ≡ x) (isThere t) _ _
+      (λ e. rw (tcbb .reads (t .stat), e) (ap (taskWithStat t) (bare-bare (t .stat)))) (λ e. rw e)
 
   -- ---- written to it
   -- a status changed so that the two bits don't matter and the task stays what it was
