@@ -68,9 +68,9 @@ other bit h t =
     record {
       reads = λ s. ap (λ (x : ℕ). not (eqb x 0)) (agree (read bit) (λ n. bitAnd n bit) (low (λ s. bitAnd (s .0) bit)) (λ n. and-low n bit h) (t .0) (s .0));
       setting = λ s. ap stored (agree (set bit) (λ n. withBit (bare (stored n)) bit .0)
-        (λ n. low (λ s. s .0) (bitOr n bit) ∙ ap (λ (x : ℕ). bare (stored x) .0) (or-low n)) (low (λ s. bitOr (s .0) bit)) (t .1) (s .0));
+          (λ n. low (λ s. s .0) (bitOr n bit) ∙ ap (λ (x : ℕ). bare (stored x) .0) (or-low n)) (low (λ s. bitOr (s .0) bit)) (t .1) (s .0));
       clearing = λ s. ap stored (agree (cleared bit) (λ n. withoutBit (bare (stored n)) bit .0)
-        (λ n. ap (λ (x : ℕ). bare (stored x) .0) (and-low n (255 - bit) (omega arith))) (low (λ s. bitAnd (s .0) (255 - bit))) (t .2) (s .0));
+          (λ n. ap (λ (x : ℕ). bare (stored x) .0) (and-low n (255 - bit) (omega arith))) (low (λ s. bitAnd (s .0) (255 - bit))) (t .2) (s .0));
     }
 
 -- ---- so it is for each of the other six

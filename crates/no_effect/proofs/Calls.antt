@@ -2,7 +2,7 @@
 -- Assumes nothing.
 use mathlib.Core.Path.{_≡_, refl, sym, ap, ap₂, _∙_, fun-ext}
 use mathlib.Core.Bool.{true}
-use mathlib.Core.List.{List, map, map-map}
+use mathlib.Core.List.{List}
 use Prim.Native.Nat.{ℕ}
 use Rattle.links.specs.Queue.{firstOf, goesBefore, insert, without}
 use Rattle.board.specs.declared.numbers.Size.{Size}
@@ -11,7 +11,7 @@ use Rattle.board.specs.declared.places.Place.the-variants.{QueuedAt}
 use Rattle.board.specs.Numbers.{taskNo}
 use Rattle.board.specs.Status.{IWAT, stored, number, withFifo}
 use Rattle.board.specs.Records.{noTask, withPrio}
-use Rattle.board.specs.Board.{Board, task, message, withTasks, withTask, withMessage, withPlace}
+use Rattle.board.specs.Board.{Board, task, message, withTask, withMessage, withPlace}
 use Rattle.paper.specs.declared.call.Call.{Call}
 use Rattle.paper.specs.declared.call.Call.the-variants.{Install, PostInterrupt, Find, CancelTask, Claim, Prepare, Release, Send}
 use Rattle.paper.specs.declared.call.Call.the-variants.{SendAndWait, Resend, ResendAndWait, Forward, ForwardAndWait, Return, ReturnAndWait}
@@ -23,10 +23,9 @@ use Rattle.paper.specs.Refusals.{ownRow}
 use Rattle.paper.specs.Outcomes.{body}
 use Rattle.no_effect.specs.Claims.{bareTask, bareBoard}
 use Rattle.no_effect.proofs.Bits.{iwat}
-use Rattle.no_effect.proofs.Tasks.{bare-twice}
 use Rattle.no_effect.proofs.Reading.{bit-reads, present-reads, prio-reads, empty-reads, number-reads, order-reads, queue-reads, find-reads}
 use Rattle.no_effect.proofs.Writing.{task-writes, order-writes, queue-writes, woken-writes, emptied-writes, waits-writes, post-writes}
-use Rattle.no_effect.proofs.Writing.{wait-interrupt-writes, take-writes}
+use Rattle.no_effect.proofs.Writing.{wait-interrupt-writes, take-writes, board-twice, cleared-twice}
 
 module _ (z : Size) (b : Board) where
   -- ---- a message is placed
@@ -69,9 +68,6 @@ place-wait-writes : (z : Size) (b : Board) (c m r : ℕ) → bareBoard (waits c 
 place-wait-writes z b c m r = waits-writes (placeAt z b m r) c ∙ ap (waits c) (place-writes z b m r)
 
 -- ---- install, which brings a status of its own
-board-twice : (b : Board) → bareBoard (bareBoard b) ≡ bareBoard b
-board-twice b = ap (withTasks b) (map-map bareTask bareTask (b .tasks) ∙ ap (λ (f : Task → Task). map f (b .tasks)) (fun-ext bare-twice))
-
 installs : (b : Board) (k : ℕ) (t : Task) (q : List ℕ)
     → bareBoard (withOrder (withTask b k t) q) ≡ withOrder (withTask (bareBoard b) k (bareTask t)) q
 installs b k t q = order-writes (withTask b k t) q ∙ ap (λ (c : Board). withOrder c q) (task-writes b k t)
@@ -82,7 +78,7 @@ install-writes z b k s p sptr name =
     let t : Task = record { stat = stored s; prio = p; link = 0; mptr = 0; sptr = sptr; name = name } in
     let queued : Board → List ℕ = λ b. insert (λ x. goesBefore true (number p) (taskNumber b x)) k (order z b) in
     let same : queued (bareBoard b) ≡ queued b =
-      ap₂ (λ (f : ℕ → ℕ) (q : List ℕ). insert (λ x. goesBefore true (number p) (f x)) k q) (fun-ext (number-reads b)) (order-reads b z) in
+    ap₂ (λ (f : ℕ → ℕ) (q : List ℕ). insert (λ x. goesBefore true (number p) (f x)) k q) (fun-ext (number-reads b)) (order-reads b z) in
     installs b k t (queued b)
     ∙ ap₂ (λ (c : Board) (q : List ℕ). withOrder (withTask c k (bareTask t)) q) (sym (board-twice b)) (sym same)
     ∙ sym (installs (bareBoard b) k t (queued (bareBoard b)))
@@ -127,9 +123,9 @@ module _ (z : Size) (b : Board) (c : ℕ) where
   pub value-reads : (call : Call) → body z (bareBoard b) c call .value ≡ body z b c call .value
   value-reads call = blind call .1
 
-  pub body-writes : (call : Call) → bareBoard (body z b c call .board) ≡ bareBoard (body z (bareBoard b) c call .board)
-  body-writes call = step (blind call .2)
+  pub body-left : (call : Call) → bareBoard (body z (bareBoard b) c call .board) ≡ bareBoard (body z b c call .board)
+  body-left call = step (blind call .2)
     where
-      step : Leaves z b c call → bareBoard (body z b c call .board) ≡ bareBoard (body z (bareBoard b) c call .board)
-      step (clear e) = sym (board-twice (body z b c call .board)) ∙ ap bareBoard e
-      step (alike e) = e
+      step : Leaves z b c call → bareBoard (body z (bareBoard b) c call .board) ≡ bareBoard (body z b c call .board)
+      step (clear e) = cleared-twice (body z b c call .board) _ e
+      step (alike e) = sym e

@@ -1,9 +1,9 @@
 -- Every change of a board goes either way round: first DEBUG and MROB cleared and then the change, or the change first.
 -- Where only byte 0, messages or places are written, both ways are the same by computation.
 -- Assumes nothing.
-use mathlib.Core.Path.{_≡_, refl, sym, ap, ap₂, _∙_}
+use mathlib.Core.Path.{_≡_, refl, sym, ap, ap₂, _∙_, fun-ext}
 use mathlib.Core.Bool.{Bool, true, false, cond, _&&_}
-use mathlib.Core.List.{List, [], _∷_}
+use mathlib.Core.List.{List, [], _∷_, map, map-map}
 use Prim.Native.Nat.{ℕ, _-_}
 use lib.Bits.{bitAnd}
 use Rattle.links.specs.Queue.{firstOf, restOf, without, relink}
@@ -20,7 +20,7 @@ use Rattle.paper.specs.Changes.{sets, clears, linkTask, linkMessage, withMptr, 
 use Rattle.paper.specs.Effects.{woken, emptied, waits, post, waitInterrupt}
 use Rattle.no_effect.specs.Claims.{bare, bareTask, bareBoard}
 use Rattle.no_effect.proofs.Bits.{Other, wait, iwat, intq, mhbs}
-use Rattle.no_effect.proofs.Tasks.{stat-bare, link-bare, mptr-bare}
+use Rattle.no_effect.proofs.Tasks.{bare-twice, stat-bare, link-bare, mptr-bare}
 use Rattle.no_effect.proofs.Reading.{task-bare, bit-reads, empty-reads, queue-reads}
 
 -- ---- one task
@@ -31,6 +31,14 @@ task-writes b k t = ap (withTasks b) (map-put bareTask (b .tasks) k t)
 changes : (f : Task → Task) → ((t : Task) → bareTask (f t) ≡ f (bareTask t)) → (b : Board) (k : ℕ)
     → bareBoard (withTask b k (f (task b k))) ≡ withTask (bareBoard b) k (f (task (bareBoard b) k))
 changes f h b k = task-writes b k (f (task b k)) ∙ ap (withTask (bareBoard b) k) (h (task b k) ∙ ap f (sym (task-bare b k)))
+
+-- ---- all tasks
+pub board-twice : (b : Board) → bareBoard (bareBoard b) ≡ bareBoard b
+board-twice b = ap (withTasks b) (map-map bareTask bareTask (b .tasks) ∙ ap (λ (f : Task → Task). map f (b .tasks)) (fun-ext bare-twice))
+
+-- cleared before and after is cleared after
+pub cleared-twice : (b d : Board) → bareBoard b ≡ d → bareBoard d ≡ bareBoard b
+cleared-twice b d e = ap bareBoard (sym e) ∙ board-twice b
 
 -- ---- one bit beside the two, and not TCBB
 module _ (b : Board) (k bit : ℕ) (o : Other bit) where
@@ -63,7 +71,7 @@ queue-writes b r q =
     ∙ ap (λ (c : Board). withMptr c r (firstOf q)) (relink-writes linkMessage (λ c x y. refl) b q)
 
 -- ---- a choice
-choice : (t u : Bool) (x y v w : Board) → u ≡ t → bareBoard x ≡ v → bareBoard y ≡ w → bareBoard (cond t x y) ≡ cond u v w
+pub choice : (t u : Bool) (x y v w : Board) → u ≡ t → bareBoard x ≡ v → bareBoard y ≡ w → bareBoard (cond t x y) ≡ cond u v w
 choice true u x y v w e p q = rw e p
 choice false u x y v w e p q = rw e q
 
@@ -104,3 +112,7 @@ take-writes z b c =
     let q = queue z b c in
     ap (λ (x : Board). hold x c (firstOf q)) (queue-writes b c (restOf q))
     ∙ ap (λ (p : List ℕ). hold (withQueue (bareBoard b) c (restOf p)) c (firstOf p)) (sym (queue-reads b z c))
+
+pub deliver-writes : (z : Size) (b : Board) (c : ℕ)
+    → bareBoard (clears (takeFirst z b c) c MHBS) ≡ clears (takeFirst z (bareBoard b) c) c MHBS
+deliver-writes z b c = clears-writes (takeFirst z b c) c MHBS mhbs refl ∙ ap (λ (x : Board). clears x c MHBS) (take-writes z b c)
