@@ -1,2 +1,3 @@
 mod Packing
 mod NoCall
+mod Theorems

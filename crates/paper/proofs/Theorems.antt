@@ -1,13 +1,13 @@
 -- The claims of specs/Claims, proved. Assumes nothing.
 use mathlib.Core.Path.{_≡_, refl, sym, ap, _∙_, subst}
-use mathlib.Core.Logic.{inl, inr}
+use mathlib.Core.Logic.{_≢_, inl, inr}
 use mathlib.Core.Bool.{Bool, true, false, cond, _&&_, true≢false}
 use mathlib.Core.List.{List, [], _∷_}
 use Prim.Native.Nat.{ℕ, zero, suc, _-_, _≤_, _<_}
 use native.Mathlib.Omega.{arith}
 use lib.ListN.{getD}
 use lib.Dec.{eqb, ltb}
-use borrow.Author.Tests.{ltb-true, eqb-true, not-false}
+use borrow.Author.Tests.{ltb-true, eqb-true, ne-eqb, not-false}
 use Rattle.links.specs.Chain.{In}
 use Rattle.links.proofs.Bools.{both, every}
 use Rattle.board.specs.declared.numbers.Size.{Size}
@@ -109,7 +109,7 @@ given-lowest n (s ∷ tests) h = go (s .applies) refl (given-lowest _ tests (asc
     go false e g = behind (lowest tests) e g
 
 -- what each of a list passes, and any other, the one at i passes
-every-at : (test : Call → Bool) (l : List Call) (other : Call) → test other ≡ true → every test l ≡ true → (i : ℕ)
+every-at : {A : Type 0} (test : A → Bool) (l : List A) (other : A) → test other ≡ true → every test l ≡ true → (i : ℕ)
     → test (getD l i other) ≡ true
 every-at test [] other o h i = o
 every-at test (x ∷ l) other o h zero = both (test x) (every test l) h .0
@@ -167,23 +167,38 @@ abbrev told : Handed → Answer
 told h =
     cond (eqb (h .number) 0) (Accepted (h .value) (h .running) (h .delivered)) (Refused (getD refusals (h .number - 1) WrongLength))
 
+-- each refusal stands at its number
+at-number : (q : Refusal) → getD refusals (numberOf q - 1) WrongLength ≡ q
+at-number WrongLength = refl
+at-number RuleBroken = refl
+at-number NobodyRuns = refl
+at-number NoSuchMessage = refl
+at-number NotHeld = refl
+at-number NoSuchTask = refl
+at-number BadPriority = refl
+at-number NotInstallable = refl
+at-number BadStatus = refl
+at-number TaskBusy = refl
+at-number NoneFree = refl
+at-number NotQueued = refl
+at-number NotItsSender = refl
+at-number BadSender = refl
+at-number NothingToDeliver = refl
+
+-- which is from 1 to 15
+pub refusal-number : (q : Refusal) → (0 < numberOf q) × (numberOf q < 16)
+refusal-number q =
+    let test : Refusal → Bool = λ r. ltb 0 (numberOf r) && ltb (numberOf r) 16 in
+    let t = subst (λ (r : Refusal). test r ≡ true) (at-number q) (every-at test refusals WrongLength refl refl (numberOf q - 1)) in
+    let r = both (ltb 0 (numberOf q)) (ltb (numberOf q) 16) t in
+    (ltb-true 0 (numberOf q) (r .0), ltb-true (numberOf q) 16 (r .1))
+
 told-handed : (a : Answer) → told (handed a) ≡ a
 told-handed (Accepted v c m) = refl
-told-handed (Refused WrongLength) = refl
-told-handed (Refused RuleBroken) = refl
-told-handed (Refused NobodyRuns) = refl
-told-handed (Refused NoSuchMessage) = refl
-told-handed (Refused NotHeld) = refl
-told-handed (Refused NoSuchTask) = refl
-told-handed (Refused BadPriority) = refl
-told-handed (Refused NotInstallable) = refl
-told-handed (Refused BadStatus) = refl
-told-handed (Refused TaskBusy) = refl
-told-handed (Refused NoneFree) = refl
-told-handed (Refused NotQueued) = refl
-told-handed (Refused NotItsSender) = refl
-told-handed (Refused BadSender) = refl
-told-handed (Refused NothingToDeliver) = refl
+told-handed (Refused q) =
+    let n : numberOf q ≢ 0 = λ e. let r = refusal-number q .0 in absurd (omega arith) in
+    ap (λ (t : Bool). cond t (Accepted 0 0 0) (Refused (getD refusals (numberOf q - 1) WrongLength))) (ne-eqb (numberOf q) 0 n)
+    ∙ ap Refused (at-number q)
 
 pub handed-tells : HandedTells
 handed-tells a e h = sym (told-handed a) ∙ ap told h ∙ told-handed e
