@@ -1,4 +1,4 @@
--- The claims of specs/Claims, proved: the ranking is one, and the links agree with the history.
+-- The claim LinksAgree of specs/Claims, proved: the links agree with the history.
 -- Assumes nothing.
 use mathlib.Core.Path.{_≡_, refl, sym, ap₂}
 use mathlib.Core.List.{List, [], _∷_}
@@ -11,17 +11,11 @@ use Rattle.paper.specs.History as bytes
 use Rattle.kept.specs.Settled.{AllFit}
 use Rattle.kept.specs.Claims.{Sizes}
 use Rattle.history.specs.Machine.{Plain, start, step}
-use Rattle.history.specs.Claims.{OneRanking, Agrees, past, LinksAgree}
-use Rattle.history.proofs.Ranks as ranks
+use Rattle.history.specs.Claims.{Agrees, past, LinksAgree}
 use Rattle.history.proofs.Asked.{asked-running, is-where}
 use Rattle.history.proofs.Same.{same-holds}
 use Rattle.history.proofs.Steps.{Agreeing, call-agrees}
 use Rattle.history.proofs.Fresh.{fresh-agrees}
-
--- ---- the ranking
--- of entries made at different times there is one, and only one
-pub one-ranking : OneRanking
-one-ranking = ranks.one-ranking
 
 -- ---- what the bytes show
 -- bytes that agree with the machine call by call agree with it in all that is seen

@@ -1,4 +1,4 @@
--- Demand 3 as statements; their proofs are in proofs/Theorems, that of CodeAgrees in proofs/Coded. A reader must believe this file.
+-- Demand 3 as statements; their proofs are in proofs/Ranks, proofs/Theorems and proofs/Coded. A reader must believe this file.
 --   OneRanking           of entries made at different times exactly one list is the ranking
 --   LinksRank next x l   the links from x are exactly the ranking of the entries l, and then 0
 --   Agrees z l p         the bytes l and the plain machine p agree: the board passes, the links from byte 0 and from each MPTR are the
