@@ -13,86 +13,86 @@ use Rattle.board.specs.Records.{noTask, taskWithStat}
 use Rattle.board.specs.Places.{isQueuedAt}
 use Rattle.board.specs.Board.{Board, task, message, place}
 use Rattle.board.proofs.Numbered.{nth-map}
-use Rattle.paper.specs.Rules.{isThere, present, nextTask, nextMessage, order, queue, emptyQueue, taskNumber, messageNumber, ready, running}
-use Rattle.paper.specs.Rules.{goodTask, goodFlags, goodMessage, rule2At, rule3, rule4At, rule5At, rule6At, rule7, passes}
+use Rattle.paper.specs.Rules.{isThere, present, nextTask, nextMessage, order, queue, emptyQueue, taskNumber, messageNumber, ready}
+use Rattle.paper.specs.Rules.{running, goodTask, goodFlags, goodMessage, rule2At, rule3, rule4At, rule5At, rule6At, rule7, passes}
 use Rattle.paper.specs.Effects.{find}
 use Rattle.no_effect.specs.Claims.{bare, bareTask, bareBoard}
 use Rattle.no_effect.proofs.Bits.{Other, mhbs, tcbb}
-use Rattle.no_effect.proofs.Tasks.{ready-bare, flags-bare, same-bare, there-bare, good-bare}
+use Rattle.no_effect.proofs.Tasks.{isReady-bare, goodFlags-bare, same-bare, isThere-bare, goodTask-bare}
 
 module _ (b : Board) where
   -- ---- a task by its number
   pub task-bare : (k : ℕ) → task (bareBoard b) k ≡ bareTask (task b k)
   task-bare k = nth-map bareTask noTask noTask (b .tasks) k refl
 
-  -- what its two bits don't change reads as before
-  reads : {A : Type 0} (f : Task → A) → ((t : Task) → f (taskWithStat t (bare (t .stat))) ≡ f t) → (k : ℕ)
+  -- what the two bits don't matter to
+  read-bare : {A : Type 0} (f : Task → A) → ((t : Task) → f (taskWithStat t (bare (t .stat))) ≡ f t) → (k : ℕ)
       → f (task (bareBoard b) k) ≡ f (task b k)
-  reads f h k = ap f (task-bare k) ∙ same-bare (task b k) f (h (task b k))
+  read-bare f h k = ap f (task-bare k) ∙ same-bare (task b k) f (h (task b k))
 
-  pub bit-reads : (bit : ℕ) → Other bit → (k : ℕ) → has (task (bareBoard b) k .stat) bit ≡ has (task b k .stat) bit
-  bit-reads bit o k = reads (λ t. has (t .stat) bit) (λ t. o .reads (t .stat)) k
+  pub has-bare : (k bit : ℕ) → Other bit → has (task (bareBoard b) k .stat) bit ≡ has (task b k .stat) bit
+  has-bare k bit o = read-bare (λ t. has (t .stat) bit) (λ t. o .reads (t .stat)) k
 
-  pub present-reads : (k : ℕ) → present (bareBoard b) k ≡ present b k
-  present-reads k = reads isThere (λ t. tcbb .reads (t .stat)) k
+  pub present-bare : (k : ℕ) → present (bareBoard b) k ≡ present b k
+  present-bare = read-bare isThere (λ t. tcbb .reads (t .stat))
 
-  ready-reads : (k : ℕ) → ready (bareBoard b) k ≡ ready b k
-  ready-reads k = reads (λ t. isReady (t .stat)) (λ t. ready-bare (t .stat)) k
+  ready-bare : (k : ℕ) → ready (bareBoard b) k ≡ ready b k
+  ready-bare = read-bare (λ t. isReady (t .stat)) (λ t. isReady-bare (t .stat))
 
-  pub prio-reads : (k : ℕ) → task (bareBoard b) k .prio ≡ task b k .prio
-  prio-reads k = reads (λ t. t .prio) (λ t. refl) k
+  pub prio-bare : (k : ℕ) → task (bareBoard b) k .prio ≡ task b k .prio
+  prio-bare = read-bare (λ t. t .prio) (λ t. refl)
 
-  link-reads : (k : ℕ) → nextTask (bareBoard b) k ≡ nextTask b k
-  link-reads k = reads (λ t. t .link) (λ t. refl) k
+  pub taskNumber-bare : (k : ℕ) → taskNumber (bareBoard b) k ≡ taskNumber b k
+  taskNumber-bare = read-bare (λ t. number (t .prio)) (λ t. refl)
 
-  mptr-reads : (k : ℕ) → task (bareBoard b) k .mptr ≡ task b k .mptr
-  mptr-reads k = reads (λ t. t .mptr) (λ t. refl) k
+  nextTask-bare : (k : ℕ) → nextTask (bareBoard b) k ≡ nextTask b k
+  nextTask-bare = read-bare (λ t. t .link) (λ t. refl)
 
-  pub empty-reads : (k : ℕ) → emptyQueue (bareBoard b) k ≡ emptyQueue b k
-  empty-reads k = reads (λ t. eqb (t .mptr) 0) (λ t. refl) k
+  mptr-bare : (k : ℕ) → task (bareBoard b) k .mptr ≡ task b k .mptr
+  mptr-bare = read-bare (λ t. t .mptr) (λ t. refl)
 
-  pub number-reads : (k : ℕ) → taskNumber (bareBoard b) k ≡ taskNumber b k
-  number-reads k = reads (λ t. number (t .prio)) (λ t. refl) k
+  pub emptyQueue-bare : (k : ℕ) → emptyQueue (bareBoard b) k ≡ emptyQueue b k
+  emptyQueue-bare = read-bare (λ t. eqb (t .mptr) 0) (λ t. refl)
 
+module _ (z : Size) (b : Board) where
   -- ---- the queues, who runs, who has a name
-  module _ (z : Size) where
-    pub order-reads : order z (bareBoard b) ≡ order z b
-    order-reads = ap (λ (next : ℕ → ℕ). walk next (z .messages) (b .first)) (fun-ext link-reads)
+  pub order-bare : order z (bareBoard b) ≡ order z b
+  order-bare = ap (λ (next : ℕ → ℕ). walk next (z .messages) (b .first)) (fun-ext (nextTask-bare b))
 
-    pub queue-reads : (k : ℕ) → queue z (bareBoard b) k ≡ queue z b k
-    queue-reads k = ap (walk (nextMessage b) (z .messages)) (mptr-reads k)
+  pub queue-bare : (k : ℕ) → queue z (bareBoard b) k ≡ queue z b k
+  queue-bare k = ap (walk (nextMessage b) (z .messages)) (mptr-bare b k)
 
-    pub running-reads : running z (bareBoard b) ≡ running z b
-    running-reads = ap₂ firstWith (fun-ext ready-reads) order-reads
+  pub running-bare : running z (bareBoard b) ≡ running z b
+  running-bare = ap₂ firstWith (fun-ext (ready-bare b)) order-bare
 
-    pub find-reads : (name : ℕ) → find z (bareBoard b) name ≡ find z b name
-    find-reads name = ap₂ firstWith (fun-ext (reads (λ t. eqb (t .name) name) (λ t. refl))) order-reads
+  pub find-bare : (name : ℕ) → find z (bareBoard b) name ≡ find z b name
+  find-bare name = ap₂ firstWith (fun-ext (read-bare b (λ t. eqb (t .name) name) (λ t. refl))) order-bare
 
-    -- ---- the rules
-    rule2-reads : (k : ℕ) → rule2At (bareBoard b) k ≡ rule2At b k
-    rule2-reads k = ap goodTask (task-bare k) ∙ good-bare (task b k)
+  -- ---- the rules
+  rule2-bare : (k : ℕ) → rule2At (bareBoard b) k ≡ rule2At b k
+  rule2-bare k = ap goodTask (task-bare b k) ∙ goodTask-bare (task b k)
 
-    which-there : (l : List Task) (n : ℕ) → which isThere n (map bareTask l) ≡ which isThere n l
-    which-there [] n = refl
-    which-there (t ∷ l) n = ap₂ (λ (there : Bool) (q : List ℕ). consIf there n q) (there-bare t) (which-there l (suc n))
+  which-bare : (l : List Task) (n : ℕ) → which isThere n (map bareTask l) ≡ which isThere n l
+  which-bare [] n = refl
+  which-bare (t ∷ l) n = ap₂ (λ (there : Bool) (q : List ℕ). consIf there n q) (isThere-bare t) (which-bare l (suc n))
 
-    rule3-reads : rule3 z (bareBoard b) ≡ rule3 z b
-    rule3-reads = λ i. lists (fun-ext link-reads i) (fun-ext number-reads i) (z .messages) (b .first) (which-there (b .tasks) 1 i)
+  rule3-bare : rule3 z (bareBoard b) ≡ rule3 z b
+  rule3-bare = λ i.
+      lists (fun-ext (nextTask-bare b) i) (fun-ext (taskNumber-bare b) i) (z .messages) (b .first) (which-bare (b .tasks) 1 i)
 
-    rule4-reads : (m : ℕ) → rule4At z (bareBoard b) m ≡ rule4At z b m
-    rule4-reads m = ap (λ (there : ℕ → Bool). goodMessage z there (message b m) (place b m)) (fun-ext present-reads)
+  rule4-bare : (m : ℕ) → rule4At z (bareBoard b) m ≡ rule4At z b m
+  rule4-bare m = ap (λ (there : ℕ → Bool). goodMessage z there (message b m) (place b m)) (fun-ext (present-bare b))
 
-    rule5-reads : (k : ℕ) → rule5At z (bareBoard b) k ≡ rule5At z b k
-    rule5-reads k =
-        ap (λ (m : ℕ). lists (nextMessage b) (messageNumber b) (z .messages) m (which (isQueuedAt k) 1 (b .places))) (mptr-reads k)
+  rule5-bare : (k : ℕ) → rule5At z (bareBoard b) k ≡ rule5At z b k
+  rule5-bare k =
+      ap (λ (m : ℕ). lists (nextMessage b) (messageNumber b) (z .messages) m (which (isQueuedAt k) 1 (b .places))) (mptr-bare b k)
 
-    rule6-reads : (k : ℕ) → rule6At (bareBoard b) k ≡ rule6At b k
-    rule6-reads k = reads (λ t. goodFlags (t .stat) (eqb (t .mptr) 0)) (λ t. flags-bare (t .stat) (eqb (t .mptr) 0)) k
+  rule6-bare : (k : ℕ) → rule6At (bareBoard b) k ≡ rule6At b k
+  rule6-bare = read-bare b (λ t. goodFlags (t .stat) (eqb (t .mptr) 0)) (λ t. goodFlags-bare (t .stat) (eqb (t .mptr) 0))
 
-    rule7-reads : rule7 z (bareBoard b) ≡ rule7 z b
-    rule7-reads =
-        ap not (bit-reads MHBS mhbs (running z (bareBoard b)) ∙ ap (λ (c : ℕ). has (task b c .stat) MHBS) running-reads)
+  rule7-bare : rule7 z (bareBoard b) ≡ rule7 z b
+  rule7-bare =
+      ap not (has-bare b (running z (bareBoard b)) MHBS mhbs ∙ ap (λ (c : ℕ). has (task b c .stat) MHBS) running-bare)
 
-    pub passes-reads : passes z (bareBoard b) ≡ passes z b
-    passes-reads =
-        rw (fun-ext rule2-reads, rule3-reads, fun-ext rule4-reads, fun-ext rule5-reads, fun-ext rule6-reads, rule7-reads)
+  pub passes-bare : passes z (bareBoard b) ≡ passes z b
+  passes-bare = rw (fun-ext rule2-bare, rule3-bare, fun-ext rule4-bare, fun-ext rule5-bare, fun-ext rule6-bare, rule7-bare)

@@ -1,9 +1,11 @@
--- Document 01, 'What the board holds': DEBUG and MROB have no effect. As a statement; its proof is in proofs/Theorems. A reader must
--- believe this file.
---   bare s              the status with DEBUG and MROB cleared; bareTask t the task so if it is present, bareBoard b the board with each
---                       task so. An absent task stays as it is: ten zero bytes by R2, which either bit would break
---   Alike z l d         l and d are as long and the same board but for DEBUG and MROB of tasks that are present
---   DebugAndMrobHaveNoEffect   check and every call answer alike boards alike, and leave them alike
+-- Document 01, 'What the board holds': DEBUG and MROB have no effect. That they are kept is in the frames of kept (Touched). As
+-- statements; their proofs are in proofs/Theorems. A reader must believe this file.
+--   bare s              the status with DEBUG and MROB cleared
+--   bareTask t          the task so, if it is present; an absent one is ten zero bytes by R2, which either bit would break
+--   bareBoard b         the board with every task so
+--   Alike z l d         l and d are as long, and the same board but for DEBUG and MROB of tasks that are present
+--   DebugAndMrobHaveNoEffect   check and each call answer boards alike the same, and leave boards alike
+--   InstallHeedsNeither        so it is for two installs with STATs that are the same but for these bits
 -- Assumes nothing.
 use mathlib.Core.Path.{_≡_}
 use mathlib.Core.Bool.{cond}
@@ -13,10 +15,11 @@ use lib.ListN.{length, getD}
 use Rattle.board.specs.declared.numbers.Size.{Size}
 use Rattle.board.specs.declared.status.Status.{Status}
 use Rattle.board.specs.declared.records.Task.{Task}
-use Rattle.board.specs.Status.{DEBUG, MROB, withoutBit}
+use Rattle.board.specs.Status.{DEBUG, MROB, stored, withoutBit}
 use Rattle.board.specs.Records.{Byte, taskWithStat}
 use Rattle.board.specs.Board.{Board, boardOf, withTasks}
 use Rattle.paper.specs.declared.call.Call.{Call}
+use Rattle.paper.specs.declared.call.Call.the-variants.{Install}
 use Rattle.paper.specs.Rules.{isThere}
 use Rattle.paper.specs.Outcomes.{effect, check}
 use Rattle.kept.specs.Settled.{Fitting}
@@ -41,3 +44,9 @@ DebugAndMrobHaveNoEffect =
     → Fitting call → Alike z l d
     → (check z l .answer ≡ check z d .answer) × (effect z l call .answer ≡ effect z d call .answer)
     × Alike z (effect z l call .after) (effect z d call .after)
+
+abbrev pub InstallHeedsNeither : Type 0
+InstallHeedsNeither =
+    (z : Size) (l : List ℕ) (k s t p sptr name : ℕ) → let call = Install k s p sptr name in let other = Install k t p sptr name in
+    Sizes z → ((i : ℕ) → Byte (getD l i 0)) → Fitting call → Fitting other → bare (stored s) ≡ bare (stored t)
+    → (effect z l call .answer ≡ effect z l other .answer) × Alike z (effect z l call .after) (effect z l other .after)

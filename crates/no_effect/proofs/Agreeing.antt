@@ -1,0 +1,123 @@
+-- Two boards alike and two calls: where the rows of refusals and the values are the same, and the boards before dispatch are but
+-- for DEBUG and MROB, the answers are the same and the boards left are alike.
+-- Assumes nothing.
+use mathlib.Core.Path.{_≡_, refl, sym, ap, _∙_, subst}
+use mathlib.Core.Bool.{Bool, true, not}
+use mathlib.Core.List.{List, _∷_}
+use Prim.Native.Nat.{ℕ}
+use lib.Dec.{eqb}
+use lib.ListN.{length, getD}
+use borrow.Author.Tests.{eqb-true, not-false}
+use Rattle.board.specs.declared.numbers.Size.{Size}
+use Rattle.board.specs.Records.{Byte}
+use Rattle.board.specs.Board.{Board, total, boardOf, bytesOf}
+use Rattle.paper.specs.declared.call.Call.{Call}
+use Rattle.paper.specs.declared.answer.Refusal.the-variants.{WrongLength, RuleBroken}
+use Rattle.paper.specs.declared.answer.Answer.the-variants.{Accepted}
+use Rattle.paper.specs.Rules.{running, passes}
+use Rattle.paper.specs.Refusals.{Test, test, no1, no2, ownRow, row, Verdict, Go, Stop, lowest}
+use Rattle.paper.specs.Outcomes.{Outcome, accepted, judge, Undispatched, body, dispatch, effect}
+use Rattle.kept.specs.Settled.{Fitting}
+use Rattle.kept.specs.Claims.{Sizes}
+use Rattle.kept.proofs.Reading.{go-passed}
+use Rattle.kept.proofs.Fitting.{fits-board}
+use Rattle.kept.proofs.Bodies.{body-settles}
+use Rattle.kept.proofs.Theorems.{sound-settled, sound-runner, passing-sound}
+use Rattle.no_effect.specs.Claims.{bareBoard, Alike}
+use Rattle.no_effect.proofs.Reading.{running-bare, passes-bare}
+use Rattle.no_effect.proofs.Dispatching.{left, delivered, left-alike, delivered-bare, Returns}
+use Rattle.no_effect.proofs.Dispatching.{left-returns, dispatch-leaves}
+
+-- ---- what the two bits don't matter to is the same of two boards
+pub same : {A : Type 0} (f : Board → A) → ((b : Board) → f (bareBoard b) ≡ f b) → (b d : Board) → bareBoard b ≡ bareBoard d
+    → f b ≡ f d
+same f h b d e = sym (h b) ∙ ap f e ∙ h d
+
+-- and of each with its running task
+pub same-run : {A : Type 0} (z : Size) (f : Board → ℕ → A) → ((b : Board) (c : ℕ) → f (bareBoard b) c ≡ f b c) → (b d : Board)
+    → bareBoard b ≡ bareBoard d → f b (running z b) ≡ f d (running z d)
+same-run z f h b d e =
+    same (λ b. f b (running z b)) (λ b. ap (f (bareBoard b)) (running-bare z b) ∙ h b (running z b)) b d e
+
+-- ---- two outcomes
+abbrev pub Agree : Size → Outcome → Outcome → Type 0
+Agree z o p = (o .answer ≡ p .answer) × Alike z (o .after) (p .after)
+
+-- a refusal leaves the boards that were
+pub judge-agree : (z : Size) (l d : List ℕ) (v w : Verdict) (o p : Outcome) → Alike z l d → v ≡ w
+    → (v ≡ Go → w ≡ Go → Agree z o p) → Agree z (judge l v o) (judge d w p)
+judge-agree z l d v w o p a e h = subst (λ (u : Verdict). Agree z (judge l v o) (judge d u p)) e (step v refl)
+  where
+    step : (u : Verdict) → v ≡ u → Agree z (judge l u o) (judge d u p)
+    step Go g = h g (sym e ∙ g)
+    step (Stop q) g = (refl, a)
+
+-- 1 and 2 apply to both or to none
+pub verdicts : (z : Size) (l d : List ℕ) (tests others : List Test) → Alike z l d → tests ≡ others
+    → lowest (no1 z l ∷ no2 z (boardOf z l) ∷ tests) ≡ lowest (no1 z d ∷ no2 z (boardOf z d) ∷ others)
+verdicts z l d tests others a e =
+    let long = ap (λ (n : ℕ). test WrongLength (not (eqb n (total z)))) (a .long) in
+    let pass = same (passes z) (passes-bare z) (boardOf z l) (boardOf z d) (a .boards) in
+    let rules = ap (λ (t : Bool). test RuleBroken (not t)) pass in
+    λ i. lowest (long i ∷ rules i ∷ e i)
+
+-- ---- a call that is accepted
+abbrev pub begun : Size → Board → Call → Undispatched
+begun z b call = body z b (running z b) call
+
+-- it ends with the board that dispatch leaves, and this reads back
+record Ended (z : Size) (l : List ℕ) (x : Undispatched) : Type 0 where
+  ends : let c = running z (x .board) in
+      dispatch z l x ≡ accepted (x .value) c (delivered z (x .board) c) (bytesOf (left z (x .board) c))
+  returns : Returns z (left z (x .board) (running z (x .board)))
+
+passed : (z : Size) (l : List ℕ) (b : Board) (c : ℕ) (call : Call) → lowest (row z l b c call) ≡ Go
+    → (length l ≡ total z) × (passes z b ≡ true) × (lowest (ownRow z b c call) ≡ Go)
+passed z l b c call g =
+    let long = go-passed (no1 z l) (no2 z b ∷ ownRow z b c call) g in
+    let rules = go-passed (no2 z b) (ownRow z b c call) (long .1) in
+    (eqb-true _ _ (not-false _ (long .0)), not-false (passes z b) (rules .0), rules .1)
+
+ended : (z : Size) (l : List ℕ) (call : Call) → Sizes z → ((i : ℕ) → Byte (getD l i 0)) → Fitting call → let b = boardOf z l in
+    lowest (row z l b (running z b) call) ≡ Go → Ended z l (begun z b call)
+ended z l call a h w g =
+    let b = boardOf z l in
+    let (long, rules, own) = passed z l b (running z b) call g in
+    let f = fits-board z l (record { long = long; bytes = h }) in
+    let s = passing-sound z b a f rules in
+    let t = body-settles z b (s .order) (s .queues) call a w (sound-settled z b a f s) (sound-runner z b a f s) own in
+    let x = begun z b call in
+    record { ends = dispatch-leaves z (x .board) _ _ a t l (x .value); returns = left-returns z (x .board) _ _ a t }
+
+ends-agree : (z : Size) (l d : List ℕ) (x y : Undispatched) → x .value ≡ y .value → bareBoard (x .board) ≡ bareBoard (y .board)
+    → Ended z l x → Ended z d y → Agree z (dispatch z l x) (dispatch z d y)
+ends-agree z l d x y v e s t =
+    let runs = same (running z) (running-bare z) (x .board) (y .board) e in
+    let given = same-run z (delivered z) (delivered-bare z) (x .board) (y .board) e in
+    let lefts = same-run z (λ b c. bareBoard (left z b c)) (left-alike z) (x .board) (y .board) e in
+    rw (s .ends, t .ends) (
+      λ i. Accepted (v i) (runs i) (given i),
+      record {
+        long = s .returns .0 .long ∙ sym (t .returns .0 .long);
+        boards = ap bareBoard (s .returns .1) ∙ lefts ∙ sym (ap bareBoard (t .returns .1));
+      },
+    )
+
+-- ---- two calls
+module _ (z : Size) (l d : List ℕ) (call other : Call) (a : Sizes z) (h : (i : ℕ) → Byte (getD l i 0))
+    (k : (i : ℕ) → Byte (getD d i 0)) (w : Fitting call) (u : Fitting other) (e : Alike z l d) where
+  abbrev b : Board
+  b = boardOf z l
+
+  abbrev c : Board
+  c = boardOf z d
+
+  pub effects-agree : ownRow z b (running z b) call ≡ ownRow z c (running z c) other
+      → begun z b call .value ≡ begun z c other .value
+      → (lowest (ownRow z b (running z b) call) ≡ Go → bareBoard (begun z b call .board) ≡ bareBoard (begun z c other .board))
+      → Agree z (effect z l call) (effect z d other)
+  effects-agree rows values boards =
+      judge-agree z l d (lowest (row z l b (running z b) call)) (lowest (row z d c (running z c) other)) _ _ e
+      (verdicts z l d (ownRow z b (running z b) call) (ownRow z c (running z c) other) e rows)
+      (λ g n. ends-agree z l d (begun z b call) (begun z c other) values (boards (passed z l b (running z b) call g .2))
+      (ended z l call a h w g) (ended z d other a k u n))
