@@ -1,23 +1,36 @@
-# make         prove every crate, build the programs and show a sample board; what is proved already and has not changed is not proved again
-# make test    the gate: layout, every crate and must-fail edit from nothing, and our own tests
-# make soak    the compiled code against the model in plain Rust, on ever new cases for SECONDS, or until it is stopped or they differ
-# make bench   docs/BENCHMARKS.md anew, on standard output; with BEFORE=LIBRARY.so another library is timed too, such as the landing before's
-.PHONY: all test soak bench
+# make         prove every crate (what has not changed since it was proved is not proved again), build the programs, show a sample board
+# make test    the gate: layout, every crate and must-fail edit from nothing, and our own tests; ends in 'N passed, M failed'
+# make soak    the compiled code against the model in plain Rust on ever new cases: SECONDS=60 for so long, else until it is stopped
+# make bench   docs/BENCHMARKS.md anew, on standard output; BEFORE=LIBRARY.so times another library beside it
+# make clean   remove all that was built
+# make help    this
+.PHONY: all test soak bench clean help
 SECONDS = 0
+SAMPLE = examples/boards/shore_station.board
 
 all:
-	@tests/need_kit
-	@rt check
+	@tests/prove
 	@tests/compare_cases worked_boards
-	@tools/board show examples/boards/shore_station.board
+	@echo; echo '$(SAMPLE):'
+	@tools/board show $(SAMPLE)
+	@echo; echo 'What to try next:'
+	@echo '    tools/board draw $(SAMPLE) >station.svg     # the same board as a picture'
+	@echo '    make test                                                             # every test there is; make help says what else'
+	@echo 'README.md says where to go from here, whoever you are.'
 
 test:
-	@tests/need_kit
 	@tests/gate
 
-soak: all
+soak:
+	@tests/need_rust
+	@tests/prove
 	@tests/model --for $(SECONDS)
 
 bench:
-	@tests/need_kit
-	@bench/run $(if $(BEFORE),--before $(BEFORE))
+	@bench/run $(if $(BEFORE),--before '$(BEFORE)')
+
+clean:
+	@rm -rf target bench/target model/target rust/target
+
+help:
+	@sed -n 's/^# //p' Makefile

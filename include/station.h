@@ -1,8 +1,9 @@
 /* The station's board: tasks, message blocks and queues in 1,476 bytes that the caller lends. For C11 and C++.
  *
  * Link with target/staticlib/libstation.a, which `rt staticlib station` writes; of the C library it needs memset alone. No
- * function keeps anything between calls, allocates, or touches a byte outside the lent ones. Any bytes and any arguments are safe
- * to hand over: what cannot be done is refused with a number and changes nothing. One writer at a time is the caller's business.
+ * function keeps anything between calls, allocates, or touches a byte outside the lent ones. The board's pointer must have as many
+ * bytes behind it as its length says; with length 0 it may be any, NULL too. Beyond that all is safe to hand over, any bytes and any
+ * other arguments: what cannot be done is refused with a number and changes nothing. One writer at a time is the caller's business.
  *
  * Tasks are numbered 1 to 32 and messages 1 to 128; 0 is none. Names in capitals (STAT, PRIO, RPTR ..) are the fields of the
  * MITE-80 manual, 3.2 and 3.3; examples/c/shore_station.c is a small program with them. */
@@ -97,17 +98,18 @@ static inline const char *station_reason(uint8_t refusal)
     }
 }
 
-/* ---- a PRIO byte: priority 0 (most urgent) to 127, and where among equals: FIFO behind them, LIFO before them */
+/* ---- a PRIO byte: priority 0 (most urgent) to 127, and where among equals: FIFO behind them, LIFO before them. Above 127 is as
+ * 127: install refuses that, and a message can only be sent with it. */
 enum { STATION_SENDERS_OWN = 127 }; /* as a message's priority: send puts the sender's own there */
 
-static inline uint8_t station_fifo(uint8_t priority)
+static inline uint8_t station_lifo(unsigned priority)
 {
-    return (uint8_t)(2 * priority + 1);
+    return (uint8_t)(2 * (priority < STATION_SENDERS_OWN ? priority : STATION_SENDERS_OWN));
 }
 
-static inline uint8_t station_lifo(uint8_t priority)
+static inline uint8_t station_fifo(unsigned priority)
 {
-    return (uint8_t)(2 * priority);
+    return (uint8_t)(station_lifo(priority) + 1);
 }
 
 /* ---- a board */

@@ -55,7 +55,8 @@ def of_picture(svg):
         texts = [t.text for t in task.findall(SVG + "text")]
         k, name = texts[:2]
         priority = next(t for t in texts if t and t.startswith("priority "))
-        rows.append((int(k), name, int(priority.split()[1]), "runs" in task.get("class").split(), messages(row, "queued"), messages(row, "held")))
+        runs = "runs" in task.get("class").split()
+        rows.append((int(k), name, int(priority.split()[1]), runs, messages(row, "queued"), messages(row, "held")))
     assert end < int(svg.get("height")), "a row lies below the page"
     return rows
 
@@ -63,7 +64,10 @@ def of_picture(svg):
 def main(board_file, svg_file):
     with open(board_file, "rb") as f:
         board = of_board(f.read())
-    picture = of_picture(ElementTree.parse(svg_file).getroot())
+    try:
+        picture = of_picture(ElementTree.parse(svg_file).getroot())
+    except (AssertionError, ElementTree.ParseError) as fault:
+        sys.exit(f"{svg_file}: {fault}")
     if picture != board:
         sys.exit(f"{svg_file}: drawn {picture}, but the board has {board}")
 

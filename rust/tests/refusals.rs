@@ -119,6 +119,12 @@ fn a_bad_sender() {
 }
 
 #[test]
+#[should_panic(expected = "a priority is 0 to 127")]
+fn no_priority_above_127() {
+    Prio::fifo(128);
+}
+
+#[test]
 fn numbers_and_words() {
     for (number, refusal) in (1..).zip(Refusal::ALL) {
         assert_eq!(refusal.number(), number);
