@@ -9,13 +9,13 @@ use lib.Dec.{eqb}
 use borrow.Author.Tests.{eqb-true, eq-eqb, ne-eqb}
 use Rattle.links.specs.Chain.{In}
 use Rattle.links.specs.Queue.{goesBefore, insert, without}
+use Rattle.links.proofs.Bools.{cond-holds}
 use Rattle.board.specs.declared.numbers.Size.{Size}
 use Rattle.board.specs.declared.status.Status.{Status}
 use Rattle.board.specs.Status.{WAIT, MHBS, has, number, fifo}
 use Rattle.board.proofs.Bits.{number-withFifo}
 use Rattle.linked.specs.Linked.{Numbered}
 use Rattle.kept.specs.Touched.{changed}
-use Rattle.kept.proofs.Reading.{cond-holds}
 use Rattle.history.specs.Ranking.{Entry}
 use Rattle.history.specs.Machine.{Sheet, Block, Plain, noSheet, machine, upd, withBlock, flagged, sets, clears, first, place, take, cancelMessage, install, cancelTask}
 use Rattle.history.proofs.Listed.{Lists, lists-stays, lists-install, lists-cancel, lists-place, lists-take}

@@ -8,6 +8,7 @@ use mathlib.Core.List.{List}
 use Prim.Native.Nat.{ℕ}
 use lib.ListN.{length}
 use Rattle.links.specs.Chain.{In}
+use Rattle.links.proofs.Bools.{cond-holds}
 use Rattle.board.specs.declared.numbers.Size.{Size}
 use Rattle.board.specs.declared.status.Status.{Status}
 use Rattle.board.specs.declared.places.Place.the-variants.{Free, HeldBy}
@@ -23,7 +24,6 @@ use Rattle.linked.proofs.Running.{lowest-free}
 use Rattle.kept.specs.Settled.{Settled}
 use Rattle.kept.specs.Touched.{IntoOrder, OutOfOrder, orderAfter}
 use Rattle.kept.specs.Claims.{Sizes}
-use Rattle.kept.proofs.Reading.{cond-holds}
 use Rattle.kept.proofs.Holding.{held-numbered}
 use Rattle.history.specs.Ranking.{Entry}
 use Rattle.history.specs.Machine as plain

@@ -10,6 +10,7 @@ use lib.Dec.{eqb}
 use borrow.Author.Tests.{eqb-true, eq-eqb}
 use Rattle.links.specs.Queue.{firstOf, restOf, without}
 use Rattle.links.specs.Chain.{In}
+use Rattle.links.proofs.Bools.{cond-holds}
 use Rattle.links.proofs.Chains.{chain-one}
 use Rattle.links.proofs.Removal.{rest-without}
 use Rattle.board.specs.declared.numbers.Size.{Size}
@@ -27,7 +28,7 @@ use Rattle.linked.proofs.Running.{placed-numbered}
 use Rattle.kept.specs.Settled.{Settled}
 use Rattle.kept.specs.Touched.{changed}
 use Rattle.kept.specs.Claims.{Sizes}
-use Rattle.kept.proofs.Reading.{cond-holds, task-put, queued-placed, queue-walked}
+use Rattle.kept.proofs.Reading.{task-put, queued-placed, queue-walked}
 use Rattle.kept.proofs.Relinked.{requeued-is}
 use Rattle.history.specs.Ranking.{Entry, keep}
 use Rattle.history.specs.Machine as plain

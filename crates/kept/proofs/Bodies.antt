@@ -1,10 +1,12 @@
--- The body of each call, one row a call: what it keeps of the board, and that it leaves R1 to R6. The claims about bodies and frames, proved.
+-- The body of each call, one row a call: what it keeps of the board, that DEBUG and MROB don't matter to it, and that it leaves R1 to R6. The
+-- claims about bodies and frames, proved.
 -- Assumes nothing.
-use mathlib.Core.Path.{_≡_, refl}
+use mathlib.Core.Path.{_≡_, refl, ap}
 use mathlib.Core.Logic.{inl, inr}
 use mathlib.Core.Bool.{false}
 use mathlib.Core.List.{List, []}
 use Prim.Native.Nat.{ℕ}
+use Rattle.links.specs.Queue.{firstOf}
 use Rattle.links.proofs.Members.{isIn-in}
 use Rattle.board.specs.declared.numbers.Size.{Size}
 use Rattle.board.specs.Status.{IWAT, INTQ, MHBS, has}
@@ -17,6 +19,12 @@ use Rattle.paper.specs.Rules.{running}
 use Rattle.paper.specs.Changes.{takeFirst}
 use Rattle.paper.specs.Refusals.{ownRow, Go, lowest}
 use Rattle.paper.specs.Outcomes.{body}
+use Rattle.bare.proofs.Bits.{iwat}
+use Rattle.bare.proofs.Reading.{has-bare, present-bare, emptyQueue-bare, queue-bare, find-bare}
+use Rattle.bare.proofs.Writing.{bare-post, bare-waitInterrupt, bare-waits, bare-takeFirst}
+use Rattle.bare.proofs.Installing.{install-alike}
+use Rattle.bare.proofs.Calls.{bare-placeAt, bare-placeAt-waits, bare-send, bare-send-waits, bare-cancelMessage, bare-cancelTask}
+use Rattle.bare.proofs.Calls.{clear, alike, Blind, blind}
 use Rattle.kept.specs.Settled.{Settled, Fitting}
 use Rattle.kept.specs.Touched.{touched, everyBit, forInterrupts, orderAfter, queuesAfter}
 use Rattle.kept.specs.Claims.{Sizes, BodySettles, BodyFrame, DispatchFrame}
@@ -48,38 +56,116 @@ module _ (z : Size) (b : Board) (q : List ℕ) (f : ℕ → List ℕ) where
       Sizes z → Fitting call → Settled z b q f → has (task b c .stat) MHBS ≡ false → lowest (ownRow z b c call) ≡ Go
       → let move = touched b c call .move in Settled z (body z b c call .board) (orderAfter b q move) (queuesAfter b f move)
 
-  -- each call: what it changes at all, and that
-  keeps : (call : Call) → Framed z b c call × Settles call
-  keeps (Install k s p sptr name) =
-      (framed-install z b c k s p sptr name, λ a w h m g. install-settled z b q f a h k s p sptr name c w g)
-  keeps (PostInterrupt k) = (frame-flag b k IWAT INTQ (inl refl) posted queued, λ a w h m g. post-settled z b q f h c k g)
-  keeps (Find name) = (frame-none b, λ a w h m g. h)
-  keeps (CancelTask k) = (framed-cancel z b c k, λ a w h m g. cancel-settled z b q f a h k c g)
-  keeps Claim = (frame-place b _ _ (inr (inl refl)), λ a w h m g. claim-settled z b q f a h g)
-  keeps (Prepare n s p sptr) =
-      (frame-message b n _ (inr (inl refl)), λ a w h m g. prepare-settled z b q f h c n s p sptr w g)
-  keeps (Release n) = (framed-release z b c n, λ a w h m g. release-settled z b q f h c n g)
-  keeps (Send n r) = (framed-send z b c n r, λ a w h m g. send-settled z b q f a h n r g .0)
-  keeps (SendAndWait n r) = (framed-send-wait z b c n r, λ a w h m g. send-settled z b q f a h n r g .1 m)
-  keeps (Resend n) = (framed-forward z b c n _, λ a w h m g. resend-settled z b q f a h n g .0)
-  keeps (ResendAndWait n) = (framed-forward-wait z b c n (message b n .rptr), λ a w h m g. resend-settled z b q f a h n g .1 m)
-  keeps (Forward n r) = (framed-forward z b c n r, λ a w h m g. forward-settled z b q f a h n r g .0)
-  keeps (ForwardAndWait n r) = (framed-forward-wait z b c n r, λ a w h m g. forward-settled z b q f a h n r g .1 m)
-  keeps (Return n) = (framed-forward z b c n _, λ a w h m g. return-settled z b q f a h n g .0)
-  keeps (ReturnAndWait n) = (framed-forward-wait z b c n (message b n .sptr), λ a w h m g. return-settled z b q f a h n g .1 m)
-  keeps Receive = (frame-take z b c, λ a w h m g. receive-settled z b q f a h m g)
-  keeps ReceiveAndWait = (frame-waits b c (inl refl), λ a w h m g. receive-and-wait-settled z b q f h m g)
-  keeps (CancelMessage n r) = (framed-back z b c n r, λ a w h m g. cancel-message-settled z b q f a h n r g)
-  keeps WaitForInterrupt = (frame-flag b c INTQ IWAT (inl refl) queued posted, λ a w h m g. wait-settled z b q f h m g)
+  -- each call: what it changes at all, what it leaves where DEBUG and MROB are cleared before, and that
+  keeps : (call : Call) → Framed z b c call × Blind z b c call × Settles call
+  keeps (Install k s p sptr name) = (
+    framed-install z b c k s p sptr name,
+    blind (rw (present-bare b k)) refl (alike (install-alike z b k p sptr name s)),
+    λ a w h m g. install-settled z b q f a h k s p sptr name c w g,
+  )
+  keeps (PostInterrupt k) = (
+    frame-flag b k IWAT INTQ (inl refl) posted queued,
+    blind (rw (present-bare b k)) refl (clear (bare-post b k)),
+    λ a w h m g. post-settled z b q f h c k g,
+  )
+  keeps (Find name) = (
+    frame-none b,
+    blind refl (find-bare z b name) (clear refl),
+    λ a w h m g. h,
+  )
+  keeps (CancelTask k) = (
+    framed-cancel z b c k,
+    blind (rw (present-bare b k, emptyQueue-bare b k, has-bare b k IWAT iwat)) refl (clear (bare-cancelTask z b k)),
+    λ a w h m g. cancel-settled z b q f a h k c g,
+  )
+  keeps Claim = (
+    frame-place b _ _ (inr (inl refl)),
+    blind refl refl (clear refl),
+    λ a w h m g. claim-settled z b q f a h g,
+  )
+  keeps (Prepare n s p sptr) = (
+    frame-message b n _ (inr (inl refl)),
+    blind refl refl (clear refl),
+    λ a w h m g. prepare-settled z b q f h c n s p sptr w g,
+  )
+  keeps (Release n) = (
+    framed-release z b c n,
+    blind refl refl (clear refl),
+    λ a w h m g. release-settled z b q f h c n g,
+  )
+  keeps (Send n r) = (
+    framed-send z b c n r,
+    blind (rw (present-bare b r)) refl (clear (bare-send z b c n r)),
+    λ a w h m g. send-settled z b q f a h n r g .0,
+  )
+  keeps (SendAndWait n r) = (
+    framed-send-wait z b c n r,
+    blind (rw (present-bare b r)) refl (clear (bare-send-waits z b c n r)),
+    λ a w h m g. send-settled z b q f a h n r g .1 m,
+  )
+  keeps (Resend n) = (
+    framed-forward z b c n _,
+    blind (rw (present-bare b (message b n .rptr))) refl (clear (bare-placeAt z b n (message b n .rptr))),
+    λ a w h m g. resend-settled z b q f a h n g .0,
+  )
+  keeps (ResendAndWait n) = (
+    framed-forward-wait z b c n (message b n .rptr),
+    blind (rw (present-bare b (message b n .rptr))) refl (clear (bare-placeAt-waits z b c n (message b n .rptr))),
+    λ a w h m g. resend-settled z b q f a h n g .1 m,
+  )
+  keeps (Forward n r) = (
+    framed-forward z b c n r,
+    blind (rw (present-bare b r)) refl (clear (bare-placeAt z b n r)),
+    λ a w h m g. forward-settled z b q f a h n r g .0,
+  )
+  keeps (ForwardAndWait n r) = (
+    framed-forward-wait z b c n r,
+    blind (rw (present-bare b r)) refl (clear (bare-placeAt-waits z b c n r)),
+    λ a w h m g. forward-settled z b q f a h n r g .1 m,
+  )
+  keeps (Return n) = (
+    framed-forward z b c n _,
+    blind (rw (present-bare b (message b n .sptr))) refl (clear (bare-placeAt z b n (message b n .sptr))),
+    λ a w h m g. return-settled z b q f a h n g .0,
+  )
+  keeps (ReturnAndWait n) = (
+    framed-forward-wait z b c n (message b n .sptr),
+    blind (rw (present-bare b (message b n .sptr))) refl (clear (bare-placeAt-waits z b c n (message b n .sptr))),
+    λ a w h m g. return-settled z b q f a h n g .1 m,
+  )
+  keeps Receive = (
+    frame-take z b c,
+    blind refl (ap firstOf (queue-bare z b c)) (clear (bare-takeFirst z b c)),
+    λ a w h m g. receive-settled z b q f a h m g,
+  )
+  keeps ReceiveAndWait = (
+    frame-waits b c (inl refl),
+    blind refl refl (clear (bare-waits b c)),
+    λ a w h m g. receive-and-wait-settled z b q f h m g,
+  )
+  keeps (CancelMessage n r) = (
+    framed-back z b c n r,
+    blind (rw (present-bare b r)) refl (clear (bare-cancelMessage z b c n r)),
+    λ a w h m g. cancel-message-settled z b q f a h n r g,
+  )
+  keeps WaitForInterrupt = (
+    frame-flag b c INTQ IWAT (inl refl) queued posted,
+    blind refl refl (clear (bare-waitInterrupt b c)),
+    λ a w h m g. wait-settled z b q f h m g,
+  )
 
 -- ---- the claims
 -- a body leaves R1 to R6, and the lists that its move says
 pub body-settles : BodySettles
-body-settles z b q f call a w h m g = keeps z b q f call .1 a w h m g
+body-settles z b q f call a w h m g = keeps z b q f call .2 a w h m g
 
 -- it changes only the records that the call touches
 pub body-frame : BodyFrame
 body-frame z b call = keeps z b [] (λ k. []) call .0
+
+-- what it reads and leaves is the same, or the same but for DEBUG and MROB, where these are cleared before
+pub body-blind : (z : Size) (b : Board) (call : Call) → Blind z b (running z b) call
+body-blind z b call = keeps z b [] (λ k. []) call .1
 
 -- dispatch changes only the running task and the message that it is handed
 pub dispatch-frame : DispatchFrame

@@ -12,6 +12,7 @@ use lib.ListN.{length, getD, take, drop, length-append, length-drop}
 use lib.Seq.{drop-drop, take-at, drop-at, length-take-le}
 use borrow.Author.Tests.{eqb-true}
 use Rattle.links.specs.Chain.{All}
+use Rattle.links.proofs.Bools.{cond-holds}
 use Rattle.board.specs.declared.numbers.Size.{Size}
 use Rattle.board.specs.declared.records.Task.{Task}
 use Rattle.board.specs.declared.records.Message.{Message}
@@ -26,7 +27,7 @@ use Rattle.board.proofs.Numbered.{nth-map}
 use Rattle.board.proofs.Pieces.{outside-within, nth-outside, length-pieces, piece-byte}
 use Rattle.board.proofs.Codec.{Small, small-at, task-back, message-back, length-tasks, length-messages, length-places}
 use Rattle.kept.specs.Settled.{FitsTask, FitsMessage, Fits}
-use Rattle.kept.proofs.Reading.{cond-holds, FitsPlace}
+use Rattle.kept.proofs.Reading.{FitsPlace}
 
 -- ---- records written one behind the other
 module _ {A : Type 0} (bytes : A → List ℕ) (w : ℕ) (long : (x : A) → length (bytes x) ≡ w) where

@@ -9,6 +9,7 @@ use Prim.Native.Nat.{ℕ, _-_, _<_}
 use native.Mathlib.Decide.{ℕ-discrete}
 use lib.Bits.{bitAnd}
 use lib.Dec.{lit<}
+use Rattle.links.proofs.Bools.{cond-holds}
 use Rattle.board.specs.declared.numbers.Size.{Size}
 use Rattle.board.specs.declared.status.Status.{Status}
 use Rattle.board.specs.declared.records.Task.{Task}
@@ -25,7 +26,7 @@ use Rattle.linked.specs.Linked.{Numbered}
 use Rattle.linked.specs.Sound.{Proper, Regular, Flags}
 use Rattle.linked.proofs.Running.{present-numbered, runner-says}
 use Rattle.kept.specs.Settled.{FitsTask, Fits, Settled}
-use Rattle.kept.proofs.Reading.{cond-holds, nth-cases, task-put, task-other, task-alike, fits-task}
+use Rattle.kept.proofs.Reading.{nth-cases, task-put, task-other, task-alike, fits-task}
 use Rattle.kept.proofs.Reading.{listing-stays, listing-start, Lawful, present-proper, good-stays}
 use Rattle.kept.proofs.Reading.{go-passed, runner-passed, task-passed}
 

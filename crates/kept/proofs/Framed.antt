@@ -7,6 +7,7 @@ use mathlib.Core.List.{List, [], _∷_}
 use Prim.Native.Nat.{ℕ, zero, suc}
 use Rattle.links.specs.Queue.{walk, firstOf, restOf, goesBefore, insert, without}
 use Rattle.links.specs.Chain.{In, All}
+use Rattle.links.proofs.Bools.{cond-holds}
 use Rattle.links.proofs.Members.{isIn-in, all-of}
 use Rattle.links.proofs.Insertion.{all-insert}
 use Rattle.links.proofs.Removal.{all-without, all-rest}
@@ -24,7 +25,6 @@ use Rattle.paper.specs.Changes.{sets, clears, linkMessage, hold, takeFirst}
 use Rattle.paper.specs.Effects.{queueWith, woken, emptied, placeAt, addressed, send, waits}
 use Rattle.paper.specs.Outcomes.{body}
 use Rattle.kept.specs.Touched.{touched, everyBit, forMessages, queueOf, relinks, Frame}
-use Rattle.kept.proofs.Reading.{cond-holds}
 use Rattle.kept.proofs.Framing.{Bit, Linkable, frame-none, frame-then, frame-set, frame-clear, frame-message, frame-place}
 use Rattle.kept.proofs.Framing.{frame-queue, frame-record, frame-order}
 

@@ -10,6 +10,7 @@ use lib.Dec.{eqb}
 use borrow.Author.Tests.{eqb-false}
 use Rattle.links.specs.Queue.{goesBefore, insert}
 use Rattle.links.specs.Chain.{Out}
+use Rattle.links.proofs.Bools.{cond-holds}
 use Rattle.links.proofs.Members.{not-in-out}
 use Rattle.links.proofs.Chains.{chain-once}
 use Rattle.links.proofs.Insertion.{insert-stays, in-insert, once-insert, sorted-insert}
@@ -36,7 +37,7 @@ use Rattle.linked.proofs.Running.{runner-says}
 use Rattle.kept.specs.Settled.{Settled}
 use Rattle.kept.specs.Touched.{IntoQueue, changed, queuesAfter}
 use Rattle.kept.specs.Claims.{Sizes}
-use Rattle.kept.proofs.Reading.{cond-holds, task-alike, message-put, message-other, place-put, present-proper}
+use Rattle.kept.proofs.Reading.{task-alike, message-put, message-other, place-put, present-proper}
 use Rattle.kept.proofs.Reading.{queue-walked, go-passed, runner-passed, held-passed, task-passed}
 use Rattle.kept.proofs.Holding.{unqueued-out, held-numbered, held-good, settled-record}
 use Rattle.kept.proofs.Relinked.{requeued, requeued-is}

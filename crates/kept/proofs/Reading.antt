@@ -34,11 +34,6 @@ use Rattle.linked.proofs.Listings.{listing-walk}
 use Rattle.kept.specs.Settled.{FitsTask, FitsMessage, Fits, Settled}
 
 -- ---- a choice
--- what holds of both choices holds of the one taken
-pub cond-holds : {A : Type 0} (P : A → Type 0) (t : Bool) (x y : A) → (t ≡ true → P x) → (t ≡ false → P y) → P (cond t x y)
-cond-holds P true x y h g = h refl
-cond-holds P false x y h g = g refl
-
 -- ---- one record written, of any kind
 getD-cases : {A : Type 0} (P : A → Type 0) (none : A) (l : List A) (k j : ℕ) (x : A) → (j ≡ k → P x) → P (getD l j none)
     → P (getD (set l k x) j none)

@@ -11,6 +11,7 @@ use lib.Dec.{eqb}
 use borrow.Author.Tests.{eqb-true, not-false}
 use Rattle.links.specs.Queue.{firstOf, restOf, without}
 use Rattle.links.specs.Chain.{In, Once, Chain}
+use Rattle.links.proofs.Bools.{cond-holds}
 use Rattle.links.proofs.Members.{out-not-in}
 use Rattle.links.proofs.Chains.{chain-first, chain-once, walk-end}
 use Rattle.links.proofs.Removal.{rest-without, in-without, out-without, once-without, sorted-without}
@@ -39,7 +40,7 @@ use Rattle.linked.proofs.Running.{placed-numbered, runner-says}
 use Rattle.kept.specs.Settled.{Settled}
 use Rattle.kept.specs.Touched.{OutOfQueue, changed, queuesAfter}
 use Rattle.kept.specs.Claims.{Sizes}
-use Rattle.kept.proofs.Reading.{cond-holds, message-put, queued-placed}
+use Rattle.kept.proofs.Reading.{message-put, queued-placed}
 use Rattle.kept.proofs.Reading.{queue-walked, go-passed, runner-passed, task-passed}
 use Rattle.kept.proofs.Relinked.{requeued, requeued-is, requeued-stat, requeued-alike}
 use Rattle.kept.proofs.Waiting.{Pending, queue-awake, task-numbered, queued-starts, stays-settled, emptied-settled, delivered-settled}

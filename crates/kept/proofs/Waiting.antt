@@ -8,6 +8,7 @@ use Prim.Native.Nat.{ℕ}
 use lib.Dec.{eqb}
 use borrow.Author.Tests.{eqb-true, eqb-false, ne-eqb}
 use Rattle.links.specs.Chain.{In, Chain}
+use Rattle.links.proofs.Bools.{cond-holds}
 use Rattle.board.specs.declared.numbers.Size.{Size}
 use Rattle.board.specs.declared.status.Status.{Status}
 use Rattle.board.specs.declared.records.Task.{Task}
@@ -26,7 +27,7 @@ use Rattle.linked.specs.Linked.{Numbered, Linked}
 use Rattle.linked.specs.Sound.{Flags}
 use Rattle.linked.proofs.Running.{present-numbered, runner-says}
 use Rattle.kept.specs.Settled.{Settled}
-use Rattle.kept.proofs.Reading.{cond-holds, task-put, task-other, task-alike, go-passed, runner-passed}
+use Rattle.kept.proofs.Reading.{task-put, task-other, task-alike, go-passed, runner-passed}
 use Rattle.kept.proofs.Flagging.{Flagged, flags-ready, flags-waiting, SettledBut, but-settled, but-clears, settled-sets}
 use Rattle.kept.proofs.Flagging.{Apart, apart-WAIT, apart-MHBS}
 

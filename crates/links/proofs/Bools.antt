@@ -1,7 +1,7 @@
--- Two tests at once, a test of each number from 1 to n, and one of each in a list.
+-- Two tests at once, a choice, a test of each number from 1 to n, and one of each in a list.
 -- Assumes nothing.
 use mathlib.Core.Path.{_≡_, refl, sym, ap, _∙_}
-use mathlib.Core.Bool.{Bool, true, false, _&&_, true≢false}
+use mathlib.Core.Bool.{Bool, true, false, cond, _&&_, true≢false}
 use mathlib.Core.List.{List, [], _∷_}
 use Prim.Native.Nat.{ℕ, zero, suc, _≤_}
 use native.Mathlib.Omega.{arith}
@@ -18,6 +18,12 @@ both false t e = absurd (true≢false (sym e))
 -- where each passes, both together pass
 pub and-true : (s t : Bool) → s ≡ true → t ≡ true → s && t ≡ true
 and-true s t e h = rw (e, h)
+
+-- ---- a choice
+-- what holds of both holds of the one taken
+pub cond-holds : {A : Type 0} (P : A → Type 0) (t : Bool) (x y : A) → (t ≡ true → P x) → (t ≡ false → P y) → P (cond t x y)
+cond-holds P true x y h g = h refl
+cond-holds P false x y h g = g refl
 
 -- ---- each number from 1 to n
 -- what passes for each passes for any one

@@ -23,8 +23,9 @@ use Rattle.kept.proofs.Reading.{go-passed}
 use Rattle.kept.proofs.Fitting.{fits-board}
 use Rattle.kept.proofs.Bodies.{body-settles}
 use Rattle.kept.proofs.Theorems.{sound-settled, sound-runner, passing-sound}
-use Rattle.no_effect.specs.Claims.{bareBoard, Alike}
-use Rattle.no_effect.proofs.Reading.{running-bare, passes-bare}
+use Rattle.bare.specs.Bare.{bareBoard}
+use Rattle.no_effect.specs.Claims.{Alike}
+use Rattle.bare.proofs.Reading.{running-bare, passes-bare}
 use Rattle.no_effect.proofs.Dispatching.{left, delivered, left-alike, delivered-bare, Returns}
 use Rattle.no_effect.proofs.Dispatching.{left-returns, dispatch-leaves}
 
@@ -34,10 +35,9 @@ pub same : {A : Type 0} (f : Board → A) → ((b : Board) → f (bareBoard b) �
 same f h b d e = sym (h b) ∙ ap f e ∙ h d
 
 -- and of each with its running task
-pub same-run : {A : Type 0} (z : Size) (f : Board → ℕ → A) → ((b : Board) (c : ℕ) → f (bareBoard b) c ≡ f b c) → (b d : Board)
-    → bareBoard b ≡ bareBoard d → f b (running z b) ≡ f d (running z d)
-same-run z f h b d e =
-    same (λ b. f b (running z b)) (λ b. ap (f (bareBoard b)) (running-bare z b) ∙ h b (running z b)) b d e
+pub same-run : {A : Type 0} (z : Size) (f : Board → ℕ → A) → ((b : Board) → let c = running z b in f (bareBoard b) c ≡ f b c)
+    → (b d : Board) → bareBoard b ≡ bareBoard d → f b (running z b) ≡ f d (running z d)
+same-run z f h b d e = same (λ b. f b (running z b)) (λ b. ap (f (bareBoard b)) (running-bare z b) ∙ h b) b d e
 
 -- ---- two outcomes
 abbrev pub Agree : Size → Outcome → Outcome → Type 0
@@ -93,8 +93,8 @@ ends-agree : (z : Size) (l d : List ℕ) (x y : Undispatched) → x .value ≡ y
     → Ended z l x → Ended z d y → Agree z (dispatch z l x) (dispatch z d y)
 ends-agree z l d x y v e s t =
     let runs = same (running z) (running-bare z) (x .board) (y .board) e in
-    let given = same-run z (delivered z) (delivered-bare z) (x .board) (y .board) e in
-    let lefts = same-run z (λ b c. bareBoard (left z b c)) (left-alike z) (x .board) (y .board) e in
+    let given = same-run z (delivered z) (λ b. delivered-bare z b (running z b)) (x .board) (y .board) e in
+    let lefts = same-run z (λ b c. bareBoard (left z b c)) (λ b. left-alike z b (running z b)) (x .board) (y .board) e in
     rw (s .ends, t .ends) (
       λ i. Accepted (v i) (runs i) (given i),
       record {

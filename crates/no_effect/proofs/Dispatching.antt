@@ -6,6 +6,7 @@ use mathlib.Core.Bool.{Bool, true, false, cond, true≢false}
 use mathlib.Core.List.{List}
 use Prim.Native.Nat.{ℕ}
 use Rattle.links.specs.Queue.{firstOf}
+use Rattle.links.proofs.Bools.{cond-holds}
 use Rattle.board.specs.declared.numbers.Size.{Size}
 use Rattle.board.specs.Status.{MHBS, has}
 use Rattle.board.specs.Board.{Board, boardOf, bytesOf, task}
@@ -16,14 +17,13 @@ use Rattle.paper.specs.Outcomes.{accepted, undispatched, dispatch}
 use Rattle.linked.proofs.Running.{runner-says}
 use Rattle.kept.specs.Settled.{Settled}
 use Rattle.kept.specs.Claims.{Sizes}
-use Rattle.kept.proofs.Reading.{cond-holds}
 use Rattle.kept.proofs.Fitting.{board-bytes, bytes-fit}
 use Rattle.kept.proofs.Taking.{deliver-settled}
 use Rattle.kept.proofs.Dispatching.{dispatch-delivers}
-use Rattle.no_effect.specs.Claims.{bareBoard}
-use Rattle.no_effect.proofs.Bits.{mhbs}
-use Rattle.no_effect.proofs.Reading.{has-bare, queue-bare}
-use Rattle.no_effect.proofs.Writing.{bare-alike, bare-cond, bare-delivered}
+use Rattle.bare.specs.Bare.{bareBoard}
+use Rattle.bare.proofs.Bits.{mhbs}
+use Rattle.bare.proofs.Reading.{has-bare, queue-bare}
+use Rattle.bare.proofs.Writing.{bare-alike, bare-cond, bare-delivered}
 
 -- ---- with c running: whether a message is due to it, the board that is left, the message that is delivered
 abbrev due : Board → ℕ → Bool

@@ -10,10 +10,13 @@ use Rattle.paper.specs.declared.call.Call.the-variants.{Install}
 use Rattle.paper.specs.Rules.{running}
 use Rattle.paper.specs.Refusals.{no1, no2, ownRow, lowest}
 use Rattle.paper.specs.Outcomes.{body, check}
-use Rattle.no_effect.specs.Claims.{bareBoard, Alike, DebugAndMrobHaveNoEffect, InstallHeedsNeither}
-use Rattle.no_effect.proofs.Reading.{running-bare}
-use Rattle.no_effect.proofs.Calls.{ownRow-bare, value-bare, body-alike}
-use Rattle.no_effect.proofs.Installing.{ownRow-status, install-status}
+use Rattle.bare.specs.Bare.{bareBoard}
+use Rattle.kept.proofs.Reading.{install-row}
+use Rattle.kept.proofs.Bodies.{body-blind}
+use Rattle.no_effect.specs.Claims.{Alike, DebugAndMrobHaveNoEffect, InstallHeedsNeither}
+use Rattle.bare.proofs.Reading.{running-bare}
+use Rattle.bare.proofs.Calls.{leaves-alike}
+use Rattle.bare.proofs.Installing.{ownRow-status, install-status}
 use Rattle.no_effect.proofs.Agreeing.{same, same-run, Agree, judge-agree, verdicts, effects-agree}
 
 checks-agree : (z : Size) (l d : List ℕ) → Alike z l d → Agree z (check z l) (check z d)
@@ -28,13 +31,14 @@ debug-and-mrob-have-no-effect z l d call a h k w e =
     let b = boardOf z l in
     let c = boardOf z d in
     let agree = effects-agree z l d call call a h k w w e
-    (same-run z (λ b c. ownRow z b c call) (λ b c. ownRow-bare z b c call) b c (e .boards))
-    (same-run z (λ b c. body z b c call .value) (λ b c. value-bare z b c call) b c (e .boards))
-    (λ g. same-run z (λ b c. bareBoard (body z b c call .board)) (λ b c. body-alike z b c call) b c (e .boards)) in
+    (same-run z (λ b c. ownRow z b c call) (λ b. body-blind z b call .row) b c (e .boards))
+    (same-run z (λ b c. body z b c call .value) (λ b. body-blind z b call .value) b c (e .boards))
+    (λ g. same-run z (λ b c. bareBoard (body z b c call .board)) (λ b. leaves-alike (body-blind z b call .leaves)) b c (e .boards)) in
     (checks-agree z l d e .0, agree .0, agree .1)
 
 pub install-heeds-neither : InstallHeedsNeither
 install-heeds-neither z l k s t p sptr name a h w u e =
     let b = boardOf z l in
     effects-agree z l l (Install k s p sptr name) (Install k t p sptr name) a h h w u (record { long = refl; boards = refl })
-    (ownRow-status z b k p sptr name s t e (running z b)) refl (install-status z b k p sptr name s t e (running z b))
+    (ownRow-status z b k p sptr name s t e (running z b)) refl
+    (λ g. install-status z b k p sptr name s t e (install-row z b k s p g .3))

@@ -1,38 +1,23 @@
 -- Document 01, 'What the board holds': DEBUG and MROB have no effect. That they are kept is in the frames of kept (Touched). As
 -- statements; their proofs are in proofs/Theorems. A reader must believe this file.
---   bare s              the status with DEBUG and MROB cleared
---   bareTask t          the task so, if it is present; an absent one is ten zero bytes by R2, which either bit would break
---   bareBoard b         the board with every task so
 --   Alike z l d         l and d are as long, and the same board but for DEBUG and MROB of tasks that are present
 --   DebugAndMrobHaveNoEffect   check and each call answer boards alike the same, and leave boards alike
 --   InstallHeedsNeither        so it is for two installs with STATs that are the same but for these bits
 -- Assumes nothing.
 use mathlib.Core.Path.{_≡_}
-use mathlib.Core.Bool.{cond}
-use mathlib.Core.List.{List, map}
+use mathlib.Core.List.{List}
 use Prim.Native.Nat.{ℕ}
 use lib.ListN.{length, getD}
 use Rattle.board.specs.declared.numbers.Size.{Size}
-use Rattle.board.specs.declared.status.Status.{Status}
-use Rattle.board.specs.declared.records.Task.{Task}
-use Rattle.board.specs.Status.{DEBUG, MROB, stored, withoutBit}
-use Rattle.board.specs.Records.{Byte, taskWithStat}
-use Rattle.board.specs.Board.{Board, boardOf, withTasks}
+use Rattle.board.specs.Status.{stored}
+use Rattle.board.specs.Records.{Byte}
+use Rattle.board.specs.Board.{boardOf}
 use Rattle.paper.specs.declared.call.Call.{Call}
 use Rattle.paper.specs.declared.call.Call.the-variants.{Install}
-use Rattle.paper.specs.Rules.{isThere}
 use Rattle.paper.specs.Outcomes.{effect, check}
+use Rattle.bare.specs.Bare.{bare, bareBoard}
 use Rattle.kept.specs.Settled.{Fitting}
 use Rattle.kept.specs.Claims.{Sizes}
-
-abbrev pub bare : Status → Status
-bare s = withoutBit (withoutBit s DEBUG) MROB
-
-abbrev pub bareTask : Task → Task
-bareTask t = cond (isThere t) (taskWithStat t (bare (t .stat))) t
-
-abbrev pub bareBoard : Board → Board
-bareBoard b = withTasks b (map bareTask (b .tasks))
 
 pub record Alike (z : Size) (l d : List ℕ) : Type 0 where
   pub long : length l ≡ length d

@@ -16,12 +16,11 @@ use Rattle.paper.specs.declared.call.Call.the-variants.{Install}
 use Rattle.paper.specs.Rules.{order, taskNumber}
 use Rattle.paper.specs.Changes.{withOrder}
 use Rattle.paper.specs.Effects.{install}
-use Rattle.paper.specs.Refusals.{no7Install, no8, no9, ownRow, Go, lowest}
-use Rattle.kept.proofs.Reading.{install-row}
-use Rattle.no_effect.specs.Claims.{bare, bareTask, bareBoard}
-use Rattle.no_effect.proofs.Bits.{wait, iwat, bit5, intq, mhbs, tcbb}
-use Rattle.no_effect.proofs.Reading.{taskNumber-bare, order-bare}
-use Rattle.no_effect.proofs.Writing.{bareBoard-twice, bare-withTask, bare-withOrder}
+use Rattle.paper.specs.Refusals.{no7Install, no8, no9, ownRow}
+use Rattle.bare.specs.Bare.{bare, bareTask, bareBoard}
+use Rattle.bare.proofs.Bits.{wait, iwat, bit5, intq, mhbs, tcbb}
+use Rattle.bare.proofs.Reading.{taskNumber-bare, order-bare}
+use Rattle.bare.proofs.Writing.{bareBoard-twice, bare-withTask, bare-withOrder}
 
 -- ---- a task of any status is queued
 bare-queued : (b : Board) (k : ℕ) (t : Task) (q : List ℕ)
@@ -73,8 +72,7 @@ module _ (z : Size) (b : Board) (k p sptr name : ℕ) where
         let there = sym (tcbb .reads (stored t)) ∙ ap isPresent (sym e) ∙ tcbb .reads (stored s) ∙ here in
         rw (here, there) (ap (taskWithStat (installed s)) e)
 
-    pub install-status : (c : ℕ) → lowest (ownRow z b c (Install k s p sptr name)) ≡ Go
-        → bareBoard (install z b k s p sptr name) ≡ bareBoard (install z b k t p sptr name)
-    install-status c g =
+    pub install-status : no9 s .applies ≡ false → bareBoard (install z b k s p sptr name) ≡ bareBoard (install z b k t p sptr name)
+    install-status g =
         let q = queued (taskNumber b) (order z b) in
-        queued-alike b b k (installed s) (installed t) q q refl (installed-alike (install-row z b k s p g .3)) refl
+        queued-alike b b k (installed s) (installed t) q q refl (installed-alike g) refl

@@ -17,10 +17,10 @@ use Rattle.board.proofs.Numbered.{map-put}
 use Rattle.paper.specs.Rules.{queue, emptyQueue}
 use Rattle.paper.specs.Changes.{sets, clears, linkTask, linkMessage, withMptr, withQueue, withOrder, hold, takeFirst}
 use Rattle.paper.specs.Effects.{woken, emptied, waits, post, waitInterrupt}
-use Rattle.no_effect.specs.Claims.{bareTask, bareBoard}
-use Rattle.no_effect.proofs.Bits.{Other, wait, iwat, intq, mhbs}
-use Rattle.no_effect.proofs.Tasks.{bareTask-twice, bare-stat, bare-link, bare-mptr}
-use Rattle.no_effect.proofs.Reading.{task-bare, has-bare, emptyQueue-bare, queue-bare}
+use Rattle.bare.specs.Bare.{bareTask, bareBoard}
+use Rattle.bare.proofs.Bits.{Other, wait, iwat, intq, mhbs}
+use Rattle.bare.proofs.Tasks.{bareTask-twice, bare-stat, bare-link, bare-mptr}
+use Rattle.bare.proofs.Reading.{task-bare, has-bare, emptyQueue-bare, queue-bare}
 
 -- ---- twice
 pub bareBoard-twice : (b : Board) → bareBoard (bareBoard b) ≡ bareBoard b

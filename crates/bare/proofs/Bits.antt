@@ -13,7 +13,7 @@ use Rattle.board.specs.declared.status.Status.{Status}
 use Rattle.board.specs.Status.{WAIT, IWAT, BIT5, INTQ, DEBUG, MHBS, TCBB, stored, has, withBit, withoutBit}
 use Rattle.board.specs.Records.{Byte}
 use Rattle.board.proofs.EveryByte.{below, below-at}
-use Rattle.no_effect.specs.Claims.{bare}
+use Rattle.bare.specs.Bare.{bare}
 
 -- ---- the low byte
 -- f looks at nothing else

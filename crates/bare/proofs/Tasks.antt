@@ -5,14 +5,14 @@ use mathlib.Core.Bool.{Bool, true, false, true≢false}
 use Prim.Native.Nat.{ℕ}
 use lib.Dec.{eqb}
 use borrow.Author.Tests.{ne-eqb}
+use Rattle.links.proofs.Bools.{cond-holds}
 use Rattle.board.specs.declared.status.Status.{Status}
 use Rattle.board.specs.declared.records.Task.{Task}
 use Rattle.board.specs.Status.{stored, isPresent, isReady}
 use Rattle.board.specs.Records.{taskWithStat, taskWithLink, taskWithMptr}
 use Rattle.paper.specs.Rules.{isThere, goodTask, goodFlags}
-use Rattle.kept.proofs.Reading.{cond-holds}
-use Rattle.no_effect.specs.Claims.{bare, bareTask}
-use Rattle.no_effect.proofs.Bits.{bare-twice, wait, iwat, bit5, intq, mhbs, tcbb}
+use Rattle.bare.specs.Bare.{bare, bareTask}
+use Rattle.bare.proofs.Bits.{bare-twice, wait, iwat, bit5, intq, mhbs, tcbb}
 
 -- ---- what is asked of a status
 pub isReady-bare : (s : Status) → isReady (bare s) ≡ isReady s

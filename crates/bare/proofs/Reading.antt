@@ -16,9 +16,9 @@ use Rattle.board.proofs.Numbered.{nth-map}
 use Rattle.paper.specs.Rules.{isThere, present, nextTask, nextMessage, order, queue, emptyQueue, taskNumber, messageNumber, ready}
 use Rattle.paper.specs.Rules.{running, goodTask, goodFlags, goodMessage, rule2At, rule3, rule4At, rule5At, rule6At, rule7, passes}
 use Rattle.paper.specs.Effects.{find}
-use Rattle.no_effect.specs.Claims.{bare, bareTask, bareBoard}
-use Rattle.no_effect.proofs.Bits.{Other, mhbs, tcbb}
-use Rattle.no_effect.proofs.Tasks.{isReady-bare, goodFlags-bare, same-bare, isThere-bare, goodTask-bare}
+use Rattle.bare.specs.Bare.{bare, bareTask, bareBoard}
+use Rattle.bare.proofs.Bits.{Other, mhbs, tcbb}
+use Rattle.bare.proofs.Tasks.{isReady-bare, goodFlags-bare, same-bare, isThere-bare, goodTask-bare}
 
 module _ (b : Board) where
   -- ---- a task by its number
