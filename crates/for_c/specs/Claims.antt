@@ -5,7 +5,6 @@
 -- Assumes nothing.
 use mathlib.Core.Path.{_≡_}
 use mathlib.Core.Logic.{_≢_}
-use Prim.Native.Nat.{ℕ}
 use Rattle.board.specs.Records.{Word}
 use Rattle.paper.specs.declared.answer.Answer.{Answer}
 use Rattle.paper.specs.Answers.{handed}

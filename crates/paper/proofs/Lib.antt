@@ -1,3 +1,4 @@
 pub mod Slips
+mod Served
 pub mod Rows
 pub mod Theorems

@@ -8,20 +8,20 @@ use lib.ListN.{replicate}
 use Rattle.board.specs.declared.numbers.Size.{Size}
 use Rattle.board.specs.Board.{boardOf, message}
 use Rattle.paper.specs.declared.call.Call.{Call}
-use Rattle.paper.specs.declared.call.Call.the-variants.{Install, PostInterrupt, Find, CancelTask, Claim, Prepare, Release, Send, Resend}
-use Rattle.paper.specs.declared.call.Call.the-variants.{Forward, Return, Receive, ReceiveAndWait, CancelMessage, WaitForInterrupt}
+use Rattle.paper.specs.declared.call.Call.the-variants.{Install, PostInterrupt, Find, Claim, Prepare, Release, Send, Resend, Forward}
+use Rattle.paper.specs.declared.call.Call.the-variants.{Return, Receive, ReceiveAndWait, CancelMessage, WaitForInterrupt}
 use Rattle.paper.specs.declared.answer.Answer.{Answer}
 use Rattle.paper.specs.declared.answer.Answer.the-variants.{Accepted, Refused}
-use Rattle.paper.specs.declared.answer.Refusal.the-variants.{RuleBroken, NobodyRuns, NoSuchMessage, NotHeld, NoSuchTask, BadPriority}
+use Rattle.paper.specs.declared.answer.Refusal.the-variants.{RuleBroken, NoSuchMessage, NotHeld, NoSuchTask, BadPriority}
 use Rattle.paper.specs.declared.answer.Refusal.the-variants.{NotInstallable, BadSender}
 use Rattle.paper.specs.Rules.{queue, order}
 use Rattle.paper.specs.Outcomes.{blank, check}
 use Rattle.paper.specs.History.{run}
 
-abbrev tiny : Size
+abbrev pub tiny : Size
 tiny = record { tasks = 3; messages = 4 }
 
-abbrev answersTo : List Call → List Answer
+abbrev pub answersTo : List Call → List Answer
 answersTo calls = run tiny (blank tiny) calls .answers
 
 abbrev after : List Call → List ℕ
@@ -30,7 +30,7 @@ after calls = run tiny (blank tiny) calls .after
 abbrev queueAfter : List Call → ℕ → List ℕ
 queueAfter calls r = queue tiny (boardOf tiny (after calls)) r
 
-abbrev ok : Answer
+abbrev pub ok : Answer
 ok = Accepted 0 1 0
 
 -- task 2 waits for a message; task 1, of higher priority, runs and holds messages 1 and 2
@@ -132,14 +132,3 @@ case-post-wakes-once :
     answersTo (Install 1 0x01 0x31 0 0 ∷ WaitForInterrupt ∷ PostInterrupt 1 ∷ WaitForInterrupt ∷ [])
     ≡ ok ∷ Accepted 0 0 0 ∷ ok ∷ Accepted 0 0 0 ∷ []
 case-post-wakes-once = refl
-
--- ---- who is served
--- find, install and post, though nobody runs
-case-anyone-is-served :
-    answersTo (Find 7 ∷ Install 1 0x01 0x31 0 0 ∷ WaitForInterrupt ∷ PostInterrupt 1 ∷ [])
-    ≡ Accepted 0 0 0 ∷ ok ∷ Accepted 0 0 0 ∷ ok ∷ []
-case-anyone-is-served = refl
-
--- a task that cancels itself
-case-cancels-itself : answersTo (Install 1 0x01 0x31 0 0 ∷ CancelTask 1 ∷ Claim ∷ []) ≡ ok ∷ Accepted 0 0 0 ∷ Refused NobodyRuns ∷ []
-case-cancels-itself = refl
