@@ -1,9 +1,10 @@
 /* The station's board: tasks, message blocks and queues in 1,476 bytes that the caller lends. For C11 and C++.
  *
  * Link with target/staticlib/libstation.a, which `rt staticlib station` writes; of the C library it needs memset alone. No
- * function keeps anything between calls, allocates, or touches a byte outside the lent ones. The board's pointer must have as many
- * bytes behind it as its length says; with length 0 it may be any, NULL too. Beyond that all is safe to hand over, any bytes and any
- * other arguments: what cannot be done is refused with a number and changes nothing. One writer at a time is the caller's business.
+ * function keeps anything between calls, allocates, or touches a byte outside the lent ones. A board's pointer must have as
+ * many bytes behind it as its length says; with length 0 it may be any, NULL too. All else is safe to hand over, any bytes and
+ * any arguments: what cannot be done is refused with a number and changes nothing. One writer at a time is the caller's
+ * business.
  *
  * Tasks are numbered 1 to 32 and messages 1 to 128; 0 is none. Names in capitals (STAT, PRIO, RPTR ..) are the fields of the
  * MITE-80 manual, 3.2 and 3.3; examples/c/shore_station.c is a small program with them. */
@@ -104,12 +105,12 @@ enum { STATION_SENDERS_OWN = 127 }; /* as a message's priority: send puts the se
 
 static inline uint8_t station_lifo(unsigned priority)
 {
-    return (uint8_t)(2 * (priority < STATION_SENDERS_OWN ? priority : STATION_SENDERS_OWN));
+    return (uint8_t)(2u * (priority < 127u ? priority : 127u));
 }
 
 static inline uint8_t station_fifo(unsigned priority)
 {
-    return (uint8_t)(station_lifo(priority) + 1);
+    return (uint8_t)(station_lifo(priority) + 1u);
 }
 
 /* ---- a board */
