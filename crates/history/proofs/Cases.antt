@@ -8,7 +8,6 @@ use Prim.Native.Nat.{ℕ}
 use native.Mathlib.Omega.{arith}
 use lib.Dec.{lit≤}
 use Rattle.links.specs.Chain.{In, Chain}
-use Rattle.board.specs.declared.numbers.Size.{Size}
 use Rattle.board.specs.Board.{boardOf, bytesOf}
 use Rattle.paper.specs.declared.call.Call.{Call}
 use Rattle.paper.specs.declared.call.Call.the-variants.{Install, Claim, Prepare, Send}
@@ -16,12 +15,10 @@ use Rattle.paper.specs.Rules.{nextMessage}
 use Rattle.paper.specs.Changes.{linkMessage}
 use Rattle.paper.specs.Outcomes.{blank}
 use Rattle.paper.specs.History.{run}
+use Rattle.paper.proofs.Slips.{tiny}
 use Rattle.history.specs.Ranking.{Entry, Ranking}
 use Rattle.history.specs.Machine.{Plain, start}
 use Rattle.history.specs.Claims.{Agrees, past}
-
-abbrev tiny : Size
-tiny = record { tasks = 3; messages = 4 }
 
 -- task 1 sends itself messages 1 and 2, the first the more urgent
 abbrev calls : List Call

@@ -17,14 +17,14 @@ use Rattle.paper.specs.declared.call.Call.the-variants.{SendAndWait, Resend, Re
 use Rattle.paper.specs.declared.call.Call.the-variants.{Receive, ReceiveAndWait, CancelMessage, WaitForInterrupt}
 use Rattle.paper.specs.Rules.{running}
 use Rattle.paper.specs.Changes.{takeFirst}
+use Rattle.paper.specs.Effects.{waits, cancelMessage, cancelTask, post, waitInterrupt, claim, release, prepare}
 use Rattle.paper.specs.Refusals.{ownRow, Go, lowest}
 use Rattle.paper.specs.Outcomes.{body}
 use Rattle.bare.proofs.Bits.{iwat}
 use Rattle.bare.proofs.Reading.{has-bare, present-bare, emptyQueue-bare, queue-bare, find-bare}
-use Rattle.bare.proofs.Writing.{bare-post, bare-waitInterrupt, bare-waits, bare-takeFirst}
+use Rattle.bare.proofs.Writing.{bareBoard-twice, bare-alike, bare-post, bare-waitInterrupt, bare-waits, bare-takeFirst}
 use Rattle.bare.proofs.Installing.{install-alike}
-use Rattle.bare.proofs.Calls.{bare-placeAt, bare-placeAt-waits, bare-send, bare-send-waits, bare-cancelMessage, bare-cancelTask}
-use Rattle.bare.proofs.Calls.{clear, alike, Blind, blind}
+use Rattle.bare.proofs.Calls.{bare-cancelMessage, bare-cancelTask, Blind, blind-send, blind-send-wait, blind-forward, blind-forward-wait}
 use Rattle.kept.specs.Settled.{Settled, Fitting}
 use Rattle.kept.specs.Touched.{touched, everyBit, forInterrupts, orderAfter, queuesAfter}
 use Rattle.kept.specs.Claims.{Sizes, BodySettles, BodyFrame, DispatchFrame}
@@ -60,97 +60,97 @@ module _ (z : Size) (b : Board) (q : List ℕ) (f : ℕ → List ℕ) where
   keeps : (call : Call) → Framed z b c call × Blind z b c call × Settles call
   keeps (Install k s p sptr name) = (
     framed-install z b c k s p sptr name,
-    blind (rw (present-bare b k)) refl (alike (install-alike z b k p sptr name s)),
+    (rw (present-bare b k), refl, install-alike z b k p sptr name s),
     λ a w h m g. install-settled z b q f a h k s p sptr name c w g,
   )
   keeps (PostInterrupt k) = (
     frame-flag b k IWAT INTQ (inl refl) posted queued,
-    blind (rw (present-bare b k)) refl (clear (bare-post b k)),
+    (rw (present-bare b k), refl, bare-alike (post b k) _ (bare-post b k)),
     λ a w h m g. post-settled z b q f h c k g,
   )
   keeps (Find name) = (
     frame-none b,
-    blind refl (find-bare z b name) (clear refl),
+    (refl, find-bare z b name, bareBoard-twice b),
     λ a w h m g. h,
   )
   keeps (CancelTask k) = (
     framed-cancel z b c k,
-    blind (rw (present-bare b k, emptyQueue-bare b k, has-bare b k IWAT iwat)) refl (clear (bare-cancelTask z b k)),
+    (rw (present-bare b k, emptyQueue-bare b k, has-bare b k IWAT iwat), refl, bare-alike (cancelTask z b k) _ (bare-cancelTask z b k)),
     λ a w h m g. cancel-settled z b q f a h k c g,
   )
   keeps Claim = (
     frame-place b _ _ (inr (inl refl)),
-    blind refl refl (clear refl),
+    (refl, refl, bareBoard-twice (claim b c)),
     λ a w h m g. claim-settled z b q f a h g,
   )
   keeps (Prepare n s p sptr) = (
     frame-message b n _ (inr (inl refl)),
-    blind refl refl (clear refl),
+    (refl, refl, bareBoard-twice (prepare b n s p sptr)),
     λ a w h m g. prepare-settled z b q f h c n s p sptr w g,
   )
   keeps (Release n) = (
     framed-release z b c n,
-    blind refl refl (clear refl),
+    (refl, refl, bareBoard-twice (release b n)),
     λ a w h m g. release-settled z b q f h c n g,
   )
   keeps (Send n r) = (
     framed-send z b c n r,
-    blind (rw (present-bare b r)) refl (clear (bare-send z b c n r)),
+    blind-send z b c n r,
     λ a w h m g. send-settled z b q f a h n r g .0,
   )
   keeps (SendAndWait n r) = (
     framed-send-wait z b c n r,
-    blind (rw (present-bare b r)) refl (clear (bare-send-waits z b c n r)),
+    blind-send-wait z b c n r,
     λ a w h m g. send-settled z b q f a h n r g .1 m,
   )
   keeps (Resend n) = (
     framed-forward z b c n _,
-    blind (rw (present-bare b (message b n .rptr))) refl (clear (bare-placeAt z b n (message b n .rptr))),
+    blind-forward z b c n (message b n .rptr),
     λ a w h m g. resend-settled z b q f a h n g .0,
   )
   keeps (ResendAndWait n) = (
     framed-forward-wait z b c n (message b n .rptr),
-    blind (rw (present-bare b (message b n .rptr))) refl (clear (bare-placeAt-waits z b c n (message b n .rptr))),
+    blind-forward-wait z b c n (message b n .rptr),
     λ a w h m g. resend-settled z b q f a h n g .1 m,
   )
   keeps (Forward n r) = (
     framed-forward z b c n r,
-    blind (rw (present-bare b r)) refl (clear (bare-placeAt z b n r)),
+    blind-forward z b c n r,
     λ a w h m g. forward-settled z b q f a h n r g .0,
   )
   keeps (ForwardAndWait n r) = (
     framed-forward-wait z b c n r,
-    blind (rw (present-bare b r)) refl (clear (bare-placeAt-waits z b c n r)),
+    blind-forward-wait z b c n r,
     λ a w h m g. forward-settled z b q f a h n r g .1 m,
   )
   keeps (Return n) = (
     framed-forward z b c n _,
-    blind (rw (present-bare b (message b n .sptr))) refl (clear (bare-placeAt z b n (message b n .sptr))),
+    blind-forward z b c n (message b n .sptr),
     λ a w h m g. return-settled z b q f a h n g .0,
   )
   keeps (ReturnAndWait n) = (
     framed-forward-wait z b c n (message b n .sptr),
-    blind (rw (present-bare b (message b n .sptr))) refl (clear (bare-placeAt-waits z b c n (message b n .sptr))),
+    blind-forward-wait z b c n (message b n .sptr),
     λ a w h m g. return-settled z b q f a h n g .1 m,
   )
   keeps Receive = (
     frame-take z b c,
-    blind refl (ap firstOf (queue-bare z b c)) (clear (bare-takeFirst z b c)),
+    (refl, ap firstOf (queue-bare z b c), bare-alike (takeFirst z b c) _ (bare-takeFirst z b c)),
     λ a w h m g. receive-settled z b q f a h m g,
   )
   keeps ReceiveAndWait = (
     frame-waits b c (inl refl),
-    blind refl refl (clear (bare-waits b c)),
+    (refl, refl, bare-alike (waits c b) _ (bare-waits b c)),
     λ a w h m g. receive-and-wait-settled z b q f h m g,
   )
   keeps (CancelMessage n r) = (
     framed-back z b c n r,
-    blind (rw (present-bare b r)) refl (clear (bare-cancelMessage z b c n r)),
+    (rw (present-bare b r), refl, bare-alike (cancelMessage z b c n r) _ (bare-cancelMessage z b c n r)),
     λ a w h m g. cancel-message-settled z b q f a h n r g,
   )
   keeps WaitForInterrupt = (
     frame-flag b c INTQ IWAT (inl refl) queued posted,
-    blind refl refl (clear (bare-waitInterrupt b c)),
+    (refl, refl, bare-alike (waitInterrupt b c) _ (bare-waitInterrupt b c)),
     λ a w h m g. wait-settled z b q f h m g,
   )
 

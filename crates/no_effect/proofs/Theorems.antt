@@ -15,7 +15,6 @@ use Rattle.kept.proofs.Reading.{install-row}
 use Rattle.kept.proofs.Bodies.{body-blind}
 use Rattle.no_effect.specs.Claims.{Alike, DebugAndMrobHaveNoEffect, InstallHeedsNeither}
 use Rattle.bare.proofs.Reading.{running-bare}
-use Rattle.bare.proofs.Calls.{leaves-alike}
 use Rattle.bare.proofs.Installing.{ownRow-status, install-status}
 use Rattle.no_effect.proofs.Agreeing.{same, same-run, Agree, judge-agree, verdicts, effects-agree}
 
@@ -31,9 +30,9 @@ debug-and-mrob-have-no-effect z l d call a h k w e =
     let b = boardOf z l in
     let c = boardOf z d in
     let agree = effects-agree z l d call call a h k w w e
-    (same-run z (λ b c. ownRow z b c call) (λ b. body-blind z b call .row) b c (e .boards))
-    (same-run z (λ b c. body z b c call .value) (λ b. body-blind z b call .value) b c (e .boards))
-    (λ g. same-run z (λ b c. bareBoard (body z b c call .board)) (λ b. leaves-alike (body-blind z b call .leaves)) b c (e .boards)) in
+    (same-run z (λ b c. ownRow z b c call) (λ b. body-blind z b call .0) b c (e .boards))
+    (same-run z (λ b c. body z b c call .value) (λ b. body-blind z b call .1) b c (e .boards))
+    (λ g. same-run z (λ b c. bareBoard (body z b c call .board)) (λ b. body-blind z b call .2) b c (e .boards)) in
     (checks-agree z l d e .0, agree .0, agree .1)
 
 pub install-heeds-neither : InstallHeedsNeither
