@@ -42,49 +42,50 @@ waiting = (isIn-in WAIT everyBit refl, isIn-in WAIT forMessages refl)
 due : Bit forMessages MHBS
 due = (isIn-in MHBS everyBit refl, isIn-in MHBS forMessages refl)
 
-module _ {ts bits ms q : List ℕ} where
+module _ {ts bits ms : List ℕ} {who : ℕ} {q : List ℕ} where
   -- a message comes into a task's hands
-  frame-hold : (b : Board) (c m : ℕ) → (m ≡ 0) ⊎ In m ms → Frame b (hold b c m) ts bits ms q false
+  frame-hold : (b : Board) (c m : ℕ) → (m ≡ 0) ⊎ In m ms → Frame b (hold b c m) ts bits ms who q false
   frame-hold b c m i = frame-then (frame-message b m _ i) (frame-place (linkMessage b m 0) m _ i)
 
   -- a flag is cleared and another set, or neither
   frame-flags : (b : Board) (r x y : ℕ) (t : Bool) → In r ts → Bit bits x → Bit bits y
-      → Frame b (cond t (sets (clears b r x) r y) b) ts bits ms q false
+      → Frame b (cond t (sets (clears b r x) r y) b) ts bits ms who q false
   frame-flags b r x y t i j k =
-      cond-holds (λ (d : Board). Frame b d ts bits ms q false) t _ b
+      cond-holds (λ (d : Board). Frame b d ts bits ms who q false) t _ b
       (λ e. frame-then (frame-clear b r x i j) (frame-set (clears b r x) r y i k)) (λ e. frame-none b)
 
   -- a flag is cleared if it is there, else another is set
   pub frame-flag : (b : Board) (k x y : ℕ) → In k ts → Bit bits x → Bit bits y
-      → Frame b (cond (has (task b k .stat) x) (clears b k x) (sets b k y)) ts bits ms q false
+      → Frame b (cond (has (task b k .stat) x) (clears b k x) (sets b k y)) ts bits ms who q false
   frame-flag b k x y i j n =
-      cond-holds (λ (d : Board). Frame b d ts bits ms q false) (has (task b k .stat) x) _ _ (λ e. frame-clear b k x i j)
+      cond-holds (λ (d : Board). Frame b d ts bits ms who q false) (has (task b k .stat) x) _ _ (λ e. frame-clear b k x i j)
       (λ e. frame-set b k y i n)
 
-module _ {ts ms q : List ℕ} where
+module _ {ts ms : List ℕ} {who : ℕ} {q : List ℕ} where
   -- a task is woken
-  frame-woken : (b : Board) (r : ℕ) → In r ts → Frame b (woken b r) ts forMessages ms q false
+  frame-woken : (b : Board) (r : ℕ) → In r ts → Frame b (woken b r) ts forMessages ms who q false
   frame-woken b r i = frame-flags b r WAIT MHBS (has (task b r .stat) WAIT) i waiting due
 
   -- a task with none left waits again
-  frame-emptied : (b : Board) (r : ℕ) → In r ts → Frame b (emptied b r) ts forMessages ms q false
+  frame-emptied : (b : Board) (r : ℕ) → In r ts → Frame b (emptied b r) ts forMessages ms who q false
   frame-emptied b r i = frame-flags b r MHBS WAIT (has (task b r .stat) MHBS && emptyQueue b r) i due waiting
 
   -- a task waits
-  pub frame-waits : (b : Board) (c : ℕ) → In c ts → Frame b (waits c b) ts forMessages ms q false
+  pub frame-waits : (b : Board) (c : ℕ) → In c ts → Frame b (waits c b) ts forMessages ms who q false
   frame-waits b c i =
       frame-set b c _ i (cond-holds (Bit forMessages) (emptyQueue b c) WAIT MHBS (λ e. waiting) (λ e. due))
 
+module _ {ts ms q : List ℕ} where
   -- a message is placed
   frame-place-at : (z : Size) (b : Board) (m r : ℕ) → In r ts → In m ms → All (Linkable ms q) (queue z b r)
-      → Frame b (placeAt z b m r) ts forMessages ms q false
+      → Frame b (placeAt z b m r) ts forMessages ms r q false
   frame-place-at z b m r i j h =
       frame-then (frame-queue b r (queueWith z b m r) i (all-insert _ _ m (queue z b r) (inl j) h))
       (frame-then (frame-place _ m _ (inr j)) (frame-then (frame-message _ m _ (inr j)) (frame-woken _ r i)))
 
   -- a message is sent: addressed, it keeps its LINK
   frame-send : (z : Size) (b : Board) (c m r : ℕ) → In r ts → In m ms → All (Linkable ms q) (queue z b r)
-      → Frame b (send z b c m r) ts forMessages ms q false
+      → Frame b (send z b c m r) ts forMessages ms r q false
   frame-send z b c m r i j h =
       let same : nextMessage b ≡ nextMessage (addressed b c m r) =
       fun-ext (λ y. sym (nth-alike (λ (t : Message). t .link) noMessage (b .messages) m y _ refl)) in
@@ -94,8 +95,8 @@ module _ {ts ms q : List ℕ} where
 -- ---- the calls, whoever runs
 module _ (z : Size) (b : Board) (c : ℕ) where
   abbrev pub Framed : Call → Type 0
-  Framed call = let t = touched b c call in
-      Frame b (body z b c call .board) (t .tasks) (t .bits) (t .messages) (queue z b (queueOf (t .move))) (relinks (t .move))
+  Framed call = let t = touched b c call in let r = queueOf (t .move) in
+      Frame b (body z b c call .board) (t .tasks) (t .bits) (t .messages) r (queue z b r) (relinks (t .move))
 
   -- the messages of a queue may all be linked
   own-queue : (m r : ℕ) → All (Linkable (m ∷ []) (queue z b r)) (queue z b r)
@@ -115,8 +116,8 @@ module _ (z : Size) (b : Board) (c : ℕ) where
   framed-release m = frame-then (frame-message b m noMessage (inr (inl refl))) (frame-place _ m Free (inr (inl refl)))
 
   -- and the caller waits
-  framed-wait : (d : Board) (r : ℕ) (ms q : List ℕ) → Frame b d (r ∷ c ∷ []) forMessages ms q false
-      → Frame b (waits c d) (r ∷ c ∷ []) forMessages ms q false
+  framed-wait : (d : Board) (r : ℕ) (ms q : List ℕ) → Frame b d (r ∷ c ∷ []) forMessages ms r q false
+      → Frame b (waits c d) (r ∷ c ∷ []) forMessages ms r q false
   framed-wait d r ms q f = frame-then f (frame-waits d c (inr (inl refl)))
 
   -- a message sent, and with the wait; so forward, and with it resend and return
@@ -133,7 +134,7 @@ module _ (z : Size) (b : Board) (c : ℕ) where
   framed-forward-wait m r = framed-wait _ r _ _ (frame-place-at z b m r (inl refl) (inl refl) (own-queue m r))
 
   -- a message taken, taken back
-  pub frame-take : {bits : List ℕ} → Frame b (takeFirst z b c) (c ∷ []) bits (task b c .mptr ∷ []) (queue z b c) false
+  pub frame-take : {bits : List ℕ} → Frame b (takeFirst z b c) (c ∷ []) bits (task b c .mptr ∷ []) c (queue z b c) false
   frame-take =
       frame-then (frame-queue b c (restOf (queue z b c)) (inl refl) (all-rest _ (queue z b c) (own-queue (task b c .mptr) c)))
       (frame-hold _ c (firstOf (queue z b c)) (walk-first (nextMessage b) (z .messages) (task b c .mptr)))

@@ -45,13 +45,13 @@ BodySettles =
 -- ---- what else stays, of any board
 abbrev pub BodyFrame : Type 0
 BodyFrame =
-    (z : Size) (b : Board) (call : Call) → let c = running z b in let t = touched b c call in
-    Frame b (body z b c call .board) (t .tasks) (t .bits) (t .messages) (queue z b (queueOf (t .move))) (relinks (t .move))
+    (z : Size) (b : Board) (call : Call) → let c = running z b in let t = touched b c call in let r = queueOf (t .move) in
+    Frame b (body z b c call .board) (t .tasks) (t .bits) (t .messages) r (queue z b r) (relinks (t .move))
 
 abbrev pub DispatchFrame : Type 0
 DispatchFrame =
     (z : Size) (b : Board) → let c = running z b in
-    Frame b (clears (takeFirst z b c) c MHBS) (c ∷ []) (MHBS ∷ []) (task b c .mptr ∷ []) (queue z b c) false
+    Frame b (clears (takeFirst z b c) c MHBS) (c ∷ []) (MHBS ∷ []) (task b c .mptr ∷ []) c (queue z b c) false
 
 -- ---- histories of a board
 abbrev pub NeverStuck : Type 0

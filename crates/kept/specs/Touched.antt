@@ -1,18 +1,19 @@
 -- What a call touches, one row a call: its body changes nothing else, and the lists of the board afterwards follow from its one move. A
 -- reader of the promises about calls must believe this file.
 --   touched b c call     the records that the body may change, and its move; c is the running task
---     tasks              of these MPTR and STAT may change; of the one installed or cancelled every field may
+--     tasks              of these STAT may change, and MPTR where the move changes its queue; of the one installed or cancelled every field may
 --     bits               of their STAT only these bits may change
 --     messages           of these the fields and the place may change
 --     move               a task or a message that goes into or out of a list of links, with its PRIO byte p
 --   changed f k q        the function f with q at k
 --   orderAfter, queuesAfter   the lists after a move, from the lists before it: what demand 3's plain machine is compared with
---   queueOf move         the task in whose queue LINKs may change, 0 for none
+--   queueOf move         the task whose MPTR, and in whose queue LINKs, may change, 0 for none
 --   relinks move         LINKs of tasks and byte 0 may change
 --   SameBut bits s u     the statuses s and u have the same bits but for these
 --   Frame b d ..         the board d is b but for those
 -- Assumes nothing.
 use mathlib.Core.Path.{_≡_}
+use mathlib.Core.Logic.{_≢_}
 use mathlib.Core.Bool.{Bool, true, false, cond}
 use mathlib.Core.List.{List, [], _∷_, _++_}
 use Prim.Native.Nat.{ℕ}
@@ -132,9 +133,9 @@ relinks (OutOfQueue m r) = false
 abbrev pub SameBut : List ℕ → Status → Status → Type 0
 SameBut bits s u = (bit : ℕ) → In bit everyBit → Out bit bits → has s bit ≡ has u bit
 
--- d is b but for the tasks ts, with those bits of STAT, the messages ms, LINKs in the queue q (a list of messages), and, where order says
--- so, LINKs of tasks
-pub record Frame (b d : Board) (ts bits ms q : List ℕ) (order : Bool) : Type 0 where
+-- d is b but for the tasks ts, with those bits of STAT, the messages ms, MPTR of task r, LINKs in its queue q (a list of messages), and, where
+-- order says so, LINKs of tasks
+pub record Frame (b d : Board) (ts bits ms : List ℕ) (r : ℕ) (q : List ℕ) (order : Bool) : Type 0 where
   pub byte1 : d .byte1 ≡ b .byte1
   pub zeros : d .zeros ≡ b .zeros
   pub first : order ≡ false → d .first ≡ b .first
@@ -142,6 +143,7 @@ pub record Frame (b d : Board) (ts bits ms q : List ℕ) (order : Bool) : Type 0
   pub links : order ≡ false → (k : ℕ) → task d k .link ≡ task b k .link
   pub fields : order ≡ false → (k : ℕ)
       → (task d k .prio ≡ task b k .prio) × (task d k .sptr ≡ task b k .sptr) × (task d k .name ≡ task b k .name)
+  pub mptr : order ≡ false → (k : ℕ) → k ≢ r → task d k .mptr ≡ task b k .mptr
   pub stat : (k : ℕ) → SameBut bits (task d k .stat) (task b k .stat)
   pub messages : (m : ℕ) → Out m ms → message d m ≡ withLink (message b m) (message d m .link)
   pub queue : (m : ℕ) → Out m ms → Out m q → message d m ≡ message b m
