@@ -9,7 +9,7 @@ use lib.ListN.{getD}
 use lib.Dec.{eqb, ltb}
 use borrow.Author.Tests.{ltb-true, eqb-true, ne-eqb, not-false}
 use Rattle.links.specs.Chain.{In}
-use Rattle.links.proofs.Bools.{both, every}
+use Rattle.links.proofs.Bools.{both, cond-holds, every}
 use Rattle.board.specs.declared.numbers.Size.{Size}
 use Rattle.board.specs.Status.{MHBS, has}
 use Rattle.board.specs.Board.{Board, boardOf, bytesOf, task}
@@ -25,7 +25,7 @@ use Rattle.paper.specs.declared.answer.Answer.the-variants.{Accepted, Re
 use Rattle.paper.specs.Answers.{numberOf, Handed, handed}
 use Rattle.paper.specs.Rules.{emptyQueue, running}
 use Rattle.paper.specs.Refusals.{Test, no1, no2, ownRow, row, Verdict, Go, Stop, lowest}
-use Rattle.paper.specs.Outcomes.{Outcome, Undispatched, accepted, refused, judge, deliver, dispatchTo, dispatch, body, blank}
+use Rattle.paper.specs.Outcomes.{Outcome, Undispatched, accepted, refused, judge, deliver, dispatchTo, dispatch, body, blank, effect, check}
 use Rattle.paper.specs.Claims.{NoSecondOutcome, Unchanged, RefusalChangesNothing, OnlyPassing, AcceptedPassed, Given, LowestIsGiven, HandedTells}
 use Rattle.paper.specs.Claims.{FreshInstallAccepted, AnswersDiffer, InstallWrites}
 
@@ -62,6 +62,13 @@ refusal-changes-nothing z l = let b = boardOf z l in let c = running z b in (
 )
 
 -- ---- the lowest is given
+-- what a verdict on tests says
+abbrev Decided : Verdict → List Test → Type 0
+Decided Go tests = (t : Test) → In t tests → t .applies ≡ false
+Decided (Stop q) tests =
+    ((t : Test) × In t tests × (t .applies ≡ true) × (t .refusal ≡ q))
+    × ((t : Test) → In t tests → t .applies ≡ true → numberOf q ≤ numberOf (t .refusal))
+
 -- the numbers of the tests ascend from above n, and stay below 15
 abbrev ascends : ℕ → List Test → Bool
 ascends n [] = ltb n 15
@@ -80,22 +87,22 @@ in-above n (s ∷ tests) h t (inl e) =
 in-above n (s ∷ tests) h t (inr i) =
     let k = ascends-on n s tests h in let q = in-above _ tests (k .1) t i in omega (arith, k .0)
 
-given-lowest : (n : ℕ) (tests : List Test) → ascends n tests ≡ true → Given (lowest tests) tests
-given-lowest n [] h = λ t i. absurd i
-given-lowest n (s ∷ tests) h = go (s .applies) refl (given-lowest _ tests (ascends-on n s tests h .1))
+decided : (n : ℕ) (tests : List Test) → ascends n tests ≡ true → Decided (lowest tests) tests
+decided n [] h = λ t i. absurd i
+decided n (s ∷ tests) h = go (s .applies) refl (decided _ tests (ascends-on n s tests h .1))
   where
-    goes : s .applies ≡ false → Given Go tests → Given Go (s ∷ tests)
+    goes : s .applies ≡ false → Decided Go tests → Decided Go (s ∷ tests)
     goes e g t (inl q) = ap (λ (x : Test). x .applies) q ∙ e
     goes e g t (inr i) = g t i
 
-    stops : (q : Refusal) → s .applies ≡ false → Given (Stop q) tests → Given (Stop q) (s ∷ tests)
+    stops : (q : Refusal) → s .applies ≡ false → Decided (Stop q) tests → Decided (Stop q) (s ∷ tests)
     stops q e ((t, i, a, r), g) = ((t, inr i, a, r), below)
       where
         below : (t : Test) → In t (s ∷ tests) → t .applies ≡ true → numberOf q ≤ numberOf (t .refusal)
         below t (inl p) a = absurd (true≢false (sym a ∙ ap (λ (x : Test). x .applies) p ∙ e))
         below t (inr i) a = g t i a
 
-    behind : (v : Verdict) → s .applies ≡ false → Given v tests → Given v (s ∷ tests)
+    behind : (v : Verdict) → s .applies ≡ false → Decided v tests → Decided v (s ∷ tests)
     behind Go e g = goes e g
     behind (Stop q) e g = stops q e g
 
@@ -103,8 +110,8 @@ given-lowest n (s ∷ tests) h = go (s .applies) refl (given-lowest _ tests (asc
     none-lower t (inl q) a = let p = ap (λ (x : Test). numberOf (x .refusal)) q in omega arith
     none-lower t (inr i) a = in-above (numberOf (s .refusal)) tests (ascends-on n s tests h .1) t i
 
-    go : (v : Bool) → s .applies ≡ v → Given (lowest tests) tests
-        → Given (elim v [ true ↦ Stop (s .refusal) | false ↦ lowest tests ]) (s ∷ tests)
+    go : (v : Bool) → s .applies ≡ v → Decided (lowest tests) tests
+        → Decided (elim v [ true ↦ Stop (s .refusal) | false ↦ lowest tests ]) (s ∷ tests)
     go true e g = ((s, inl refl, e, refl), none-lower)
     go false e g = behind (lowest tests) e g
 
@@ -140,22 +147,40 @@ pub row-below : (z : Size) (l : List ℕ) (b : Board) (c : ℕ) (call : Call) (q
     → numberOf q < 15
 row-below z l b c call = stop-below 0 (row z l b c call) (row-ascends z l b c call)
 
-pub lowest-is-given : LowestIsGiven
-lowest-is-given z l b c call = given-lowest 0 (row z l b c call) (row-ascends z l b c call)
+-- what the verdict says, the answer says; where none applies dispatch answers, and its refusal is 15
+module _ (tests : List Test) where
+  given-judged : ascends 0 tests ≡ true → (l : List ℕ) (o : Outcome) → (Decided Go tests → Given (o .answer) tests)
+      → Given (judge l (lowest tests) o .answer) tests
+  given-judged a l o h = step (lowest tests) (decided 0 tests a)
+    where
+      step : (v : Verdict) → Decided v tests → Given (judge l v o .answer) tests
+      step Go d = h d
+      step (Stop q) d = λ n. d
 
--- ---- accepted means that the board passed
--- a row that begins with 1 and 2
-only-passing : (z : Size) (l : List ℕ) (tests : List Test) (o : Outcome) (v : Verdict)
-    → Given v (no1 z l ∷ no2 z (boardOf z l) ∷ tests) → OnlyPassing z l (judge l v o)
-only-passing z l tests o Go g v c m e =
-    (eqb-true _ _ (not-false _ (g (no1 z l) (inl refl))), not-false _ (g (no2 z (boardOf z l)) (inr (inl refl))))
-only-passing z l tests o (Stop q) g v c m e = let z : _≡_ {A = ℕ} 0 1 = cc in absurd (omega arith)
+  given-dispatched : (z : Size) (l : List ℕ) (d : Undispatched) (c : ℕ) → Decided Go tests → Given (dispatchTo z l d c .answer) tests
+  given-dispatched z l d c h =
+      cond-holds (λ (o : Outcome). Given (o .answer) tests) (has (task (d .board) c .stat) MHBS) _ _
+      (λ e. cond-holds (λ (o : Outcome). Given (o .answer) tests) (emptyQueue (d .board) c) _ _ (λ i n. absurd (n refl)) (λ i. h)) (λ e. h)
+
+pub lowest-is-given : LowestIsGiven
+lowest-is-given z l = let b = boardOf z l in let c = running z b in (
+  (λ call. let d = body z b c call in
+      given-judged (row z l b c call) (row-ascends z l b c call) l (dispatch z l d)
+      (given-dispatched (row z l b c call) z l d (running z (d .board)))),
+  given-judged (no1 z l ∷ no2 z b ∷ []) refl l (accepted 0 c 0 l) (λ h. h),
+  given-judged (no1 z l ∷ []) refl l (accepted 0 0 0 (blank z)) (λ h. h),
+)
+
+-- ---- accepted means that the board passed: 1 and 2 did not apply
+only-passing : (z : Size) (l : List ℕ) (tests : List Test) (o : Outcome) → Given (o .answer) (no1 z l ∷ no2 z (boardOf z l) ∷ tests)
+    → OnlyPassing z l o
+only-passing z l tests o g v c m e =
+    let none = subst (λ (a : Answer). Given a (no1 z l ∷ no2 z (boardOf z l) ∷ tests)) e g in
+    (eqb-true _ _ (not-false _ (none (no1 z l) (inl refl))), not-false _ (none (no2 z (boardOf z l)) (inr (inl refl))))
 
 pub accepted-passed : AcceptedPassed
-accepted-passed z l = let b = boardOf z l in let c = running z b in (
-  (λ call. only-passing z l (ownRow z b c call) (dispatch z l (body z b c call)) (lowest (row z l b c call)) (lowest-is-given z l b c call)),
-  only-passing z l [] (accepted 0 c 0 l) (lowest (no1 z l ∷ no2 z b ∷ [])) (given-lowest 0 (no1 z l ∷ no2 z b ∷ []) refl),
-)
+accepted-passed z l = let b = boardOf z l in let (calls, checks, freshes) = lowest-is-given z l in
+    ((λ call. only-passing z l (ownRow z b (running z b) call) (effect z l call) (calls call)), only-passing z l [] (check z l) checks)
 
 -- ---- the paper's number and values tell the answer
 abbrev refusals : List Refusal

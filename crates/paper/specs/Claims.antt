@@ -2,29 +2,30 @@
 --   NoSecondOutcome     a contract that says Ends .. o fixes the answer and all bytes
 --   RefusalChangesNothing   a refused call, check or fresh leaves every byte
 --   AcceptedPassed      a call or a check is accepted only of bytes of the board's length whose board passes
---   LowestIsGiven       the refusal given stands in the call's row and applies, and none of a lower number does; none is given only where
---                       none applies
+--   LowestIsGiven       the refusal that a call, check or fresh gives stands in its row and applies, and none of a lower number does; none is
+--                       given only where none applies
 --   HandedTells         the paper's number and values tell the answer
 --   FreshInstallAccepted, AnswersDiffer, InstallWrites   the definitions refuse not all, answer not always the same, and do write
 -- Assumes nothing.
 use mathlib.Core.Path.{_≡_}
 use mathlib.Core.Logic.{_≢_}
 use mathlib.Core.Bool.{true, false}
-use mathlib.Core.List.{List}
+use mathlib.Core.List.{List, [], _∷_}
 use Prim.Native.Nat.{ℕ, _≤_}
 use lib.ListN.{length}
 use Rattle.links.specs.Chain.{In}
 use Rattle.board.specs.declared.numbers.Size.{Size}
 use Rattle.board.specs.Numbers.{small}
-use Rattle.board.specs.Board.{Board, total, boardOf}
+use Rattle.board.specs.Board.{total, boardOf}
 use Rattle.paper.specs.declared.call.Call.{Call}
 use Rattle.paper.specs.declared.call.Call.the-variants.{Install, Claim, Receive}
 use Rattle.paper.specs.declared.answer.Refusal.{Refusal}
+use Rattle.paper.specs.declared.answer.Refusal.the-variants.{NothingToDeliver}
 use Rattle.paper.specs.declared.answer.Answer.{Answer}
 use Rattle.paper.specs.declared.answer.Answer.the-variants.{Accepted, Refused}
 use Rattle.paper.specs.Answers.{numberOf, handed}
-use Rattle.paper.specs.Rules.{passes}
-use Rattle.paper.specs.Refusals.{Test, row, Verdict, Go, Stop, lowest}
+use Rattle.paper.specs.Rules.{running, passes}
+use Rattle.paper.specs.Refusals.{Test, no1, no2, row}
 use Rattle.paper.specs.Outcomes.{Outcome, Ends, effect, fresh, check, blank}
 
 abbrev pub NoSecondOutcome : Type 0
@@ -45,15 +46,20 @@ OnlyPassing z l o = (v c m : ℕ) → o .answer ≡ Accepted v c m → (length l
 abbrev pub AcceptedPassed : Type 0
 AcceptedPassed = (z : Size) (l : List ℕ) → ((call : Call) → OnlyPassing z l (effect z l call)) × OnlyPassing z l (check z l)
 
--- ---- the lowest is given
-abbrev pub Given : Verdict → List Test → Type 0
-Given Go tests = (t : Test) → In t tests → t .applies ≡ false
-Given (Stop q) tests =
-    ((t : Test) × In t tests × (t .applies ≡ true) × (t .refusal ≡ q))
+-- ---- the lowest is given; 15 is found at dispatch and stands in no row
+abbrev pub Given : Answer → List Test → Type 0
+Given (Accepted v c m) tests = (t : Test) → In t tests → t .applies ≡ false
+Given (Refused q) tests =
+    q ≢ NothingToDeliver
+    → ((t : Test) × In t tests × (t .applies ≡ true) × (t .refusal ≡ q))
     × ((t : Test) → In t tests → t .applies ≡ true → numberOf q ≤ numberOf (t .refusal))
 
 abbrev pub LowestIsGiven : Type 0
-LowestIsGiven = (z : Size) (l : List ℕ) (b : Board) (c : ℕ) (call : Call) → Given (lowest (row z l b c call)) (row z l b c call)
+LowestIsGiven =
+    (z : Size) (l : List ℕ) → let b = boardOf z l in
+    ((call : Call) → Given (effect z l call .answer) (row z l b (running z b) call))
+    × Given (check z l .answer) (no1 z l ∷ no2 z b ∷ [])
+    × Given (fresh z l .answer) (no1 z l ∷ [])
 
 abbrev pub HandedTells : Type 0
 HandedTells = (a e : Answer) → handed a ≡ handed e → a ≡ e
