@@ -4,7 +4,6 @@
 use mathlib.Core.List.{List, _∷_, map}
 use Prim.Native.Nat.{ℕ}
 use lib.ListN.{getD}
-use Rattle.paper.specs.declared.call.Call.{Call}
 use Rattle.paper.specs.Arguments.{callsOf}
 use Rattle.for_c.specs.declared.asked.Asked.{Asked}
 use Rattle.for_c.specs.declared.asked.Asked.the-variants.{Made, NoCall}

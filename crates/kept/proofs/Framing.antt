@@ -1,5 +1,5 @@
--- What one change keeps: it alters records of the tasks ts, of their STAT those bits, the messages ms and the queue q alone; changes that do
--- so compose.
+-- What one change keeps: it alters records of the tasks ts, of their STAT those bits, MPTR of task who, the messages ms and the queue q alone;
+-- changes that do so compose.
 -- Assumes nothing.
 use mathlib.Core.Path.{_≡_, refl, sym, ap, _∙_, subst}
 use mathlib.Core.Logic.{_≢_, _⊎_, inl, inr, ⊎-elim}

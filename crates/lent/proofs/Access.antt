@@ -13,24 +13,21 @@ use lib.Dec.{T, ltb, ltb→lt}
 use lib.ListN.{getD, set, length-map}
 use lib.Seq.{sets}
 use Rattle.board.specs.declared.numbers.Size.{Size}
-use Rattle.board.specs.declared.numbers.TaskNo.{TaskNo}
-use Rattle.board.specs.declared.numbers.TaskMeant.the-variants.{Task, NoTask}
+use Rattle.board.specs.declared.numbers.TaskMeant.the-variants.{Task}
 use Rattle.board.specs.declared.status.Status.{Status}
 use Rattle.board.specs.declared.records.Task as tasks
 use Rattle.board.specs.declared.records.Message.{Message}
 use Rattle.board.specs.declared.places.Place.{Place}
-use Rattle.board.specs.declared.places.Place.the-variants.{Free, HeldBy, QueuedAt, Nowhere}
-use Rattle.board.specs.Numbers.{outside, taskMeant}
+use Rattle.board.specs.declared.places.Place.the-variants.{Free}
+use Rattle.board.specs.Numbers.{outside}
 use Rattle.board.specs.Status.{stored}
 use Rattle.board.specs.Records.{wordAt, wordBytes, taskOf, taskBytes, noTask, messageOf, messageBytes, noMessage}
 use Rattle.board.specs.Places.{placeOf, placeByte, placeIn, placeBytes}
 use Rattle.board.specs.Board.{Area, taskArea, messageArea, placeArea, pieces, boardOf, nth, task, message, place}
 use Rattle.board.specs.Writes.{start, putIn, putTask, putMessage, putPlace}
 use Rattle.board.proofs.Numbered.{nth-map}
-use Rattle.board.proofs.Pieces.{outside-within, within-outside, outside-zero, outside-above, nth-outside, length-pieces}
+use Rattle.board.proofs.Pieces.{within-outside, outside-zero, outside-above, nth-outside, length-pieces}
 use Rattle.board.proofs.Pieces.{piece-byte, putIn-outside, putIn-within}
-use Rattle.board.proofs.Meant.{taskMeant-task, taskMeant-none}
-use Rattle.board.proofs.Codec.{place-held, place-receiver, place-nowhere}
 
 -- ---- the number
 within : (count k n : ℕ) → n ≡ k → n ≢ 0 → n ≤ count → outside count k ≡ false

@@ -14,7 +14,6 @@ use lib.Dec.{eqb, leb}
 use Rattle.board.specs.declared.numbers.Size.{Size}
 use Rattle.board.specs.declared.numbers.MessageMeant.{MessageMeant}
 use Rattle.board.specs.declared.numbers.MessageMeant.the-variants.{Message, NoMessage}
-use Rattle.board.specs.declared.records.Task.{Task}
 use Rattle.board.specs.Numbers.{messageMeant}
 use Rattle.board.specs.Places.{isQueuedAt, isQueued}
 use Rattle.board.specs.Board.{Board, task, place}

@@ -9,8 +9,6 @@ use lib.ListN.{length}
 use Rattle.links.specs.Queue.{firstOf, restOf}
 use Rattle.links.specs.Chain.{In, Out}
 use Rattle.board.specs.declared.numbers.Size.{Size}
-use Rattle.board.specs.declared.status.Status.{Status}
-use Rattle.board.specs.declared.records.Task.{Task}
 use Rattle.board.specs.declared.records.Message.{Message}
 use Rattle.board.specs.declared.places.Place.the-variants.{QueuedAt}
 use Rattle.board.specs.Numbers.{outside, onBoard, taskNo}

@@ -12,7 +12,6 @@ use Rattle.links.specs.Queue.{firstWith}
 use Rattle.links.specs.Chain.{In}
 use Rattle.links.proofs.Members.{not-in-out}
 use Rattle.board.specs.declared.numbers.Size.{Size}
-use Rattle.board.specs.declared.records.Task.{Task}
 use Rattle.board.specs.declared.records.Message.{Message}
 use Rattle.board.specs.declared.places.Place.the-variants.{Free}
 use Rattle.board.specs.Records.{noTask, noMessage}

@@ -14,7 +14,6 @@ use Rattle.links.specs.Seek.{Spot, seek}
 use Rattle.links.proofs.Members.{out-not-in, all-of}
 use Rattle.links.proofs.Chains.{chain-frame, walk-length}
 use Rattle.board.specs.declared.numbers.Size.{Size}
-use Rattle.board.specs.declared.numbers.TaskNo.{TaskNo}
 use Rattle.board.specs.declared.numbers.TaskMeant.the-variants as meant
 use Rattle.board.specs.declared.records.Task.{Task}
 use Rattle.board.specs.Numbers.{outside, onBoard, taskMeant}

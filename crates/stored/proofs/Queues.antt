@@ -15,9 +15,7 @@ use Rattle.links.proofs.Members.{out-not-in, all-of}
 use Rattle.links.proofs.Chains.{chain-first, chain-frame, chain-walk, walk-length}
 use Rattle.links.proofs.Insertion.{insert-stays}
 use Rattle.board.specs.declared.numbers.Size.{Size}
-use Rattle.board.specs.declared.numbers.MsgNo.{MsgNo}
 use Rattle.board.specs.declared.numbers.MessageMeant.the-variants as meant
-use Rattle.board.specs.declared.records.Task.{Task}
 use Rattle.board.specs.declared.records.Message.{Message}
 use Rattle.board.specs.declared.places.Place.the-variants.{Free, QueuedAt}
 use Rattle.board.specs.Numbers.{outside, onBoard, taskNo, messageMeant}

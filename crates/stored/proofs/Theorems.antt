@@ -8,8 +8,6 @@ use lib.ListN.{length}
 use borrow.Author.Tests.{eqb-false}
 use Rattle.links.specs.Queue.{firstOf}
 use Rattle.board.specs.declared.numbers.Size.{Size}
-use Rattle.board.specs.declared.status.Status.{Status}
-use Rattle.board.specs.declared.records.Task.{Task}
 use Rattle.board.specs.Status.{MHBS, has}
 use Rattle.board.specs.Board.{Board, total, boardOf, bytesOf, task}
 use Rattle.board.specs.Claims.{Bytes}
@@ -19,12 +17,12 @@ use Rattle.paper.specs.declared.answer.Refusal.the-variants.{NothingToDeliver}
 use Rattle.paper.specs.Rules.{queue, running, passes}
 use Rattle.paper.specs.Changes.{clears, takeFirst}
 use Rattle.paper.specs.Refusals.{ownRow, Verdict, Go, Stop, lowest}
-use Rattle.paper.specs.Outcomes.{Outcome, Undispatched, undispatched, accepted, refused, judge, body, deliver, dispatch, effect}
+use Rattle.paper.specs.Outcomes.{Outcome, undispatched, accepted, refused, judge, body, deliver, dispatch, effect}
 use Rattle.paper.proofs.Rows.{row-own}
 use Rattle.linked.proofs.Running.{runner-says}
 use Rattle.kept.specs.Claims.{Sizes}
 use Rattle.kept.specs.Settled.{Settled, Fitting}
-use Rattle.kept.specs.Touched.{Touched, touched, orderAfter, queuesAfter}
+use Rattle.kept.specs.Touched.{touched, orderAfter, queuesAfter}
 use Rattle.kept.proofs.Fitting.{fits-board}
 use Rattle.kept.proofs.Dispatching.{dispatch-delivers}
 use Rattle.kept.proofs.Theorems.{passing-sound, sound-settled, sound-runner}
@@ -35,7 +33,7 @@ use Rattle.stores.specs.Answers.{Stored, bodyBy, bytesBy}
 use Rattle.stores.specs.Calls as calls
 use Rattle.stored.proofs.Comes.{Comes, and-then, comes-task}
 use Rattle.stored.proofs.Bodies.{first-walked, first-numbered, comes-taken}
-use Rattle.stored.proofs.Calls.{Body, body-comes}
+use Rattle.stored.proofs.Calls.{body-comes}
 
 -- bytes that come to a board are its bytes
 comes-bytes : (z : Size) (l : List ℕ) (b : Board) → Comes z l b → Small l → l ≡ bytesOf b

@@ -16,8 +16,6 @@ use Rattle.links.specs.Queue.{goesBefore}
 use Rattle.links.specs.Seek.{Spot, seek}
 use Rattle.links.proofs.Seeking.{seek-turn, seek-found, seek-end, seek-out}
 use Rattle.board.specs.declared.numbers.Size.{Size}
-use Rattle.board.specs.declared.numbers.TaskNo.{TaskNo}
-use Rattle.board.specs.declared.numbers.MsgNo.{MsgNo}
 use Rattle.board.specs.declared.numbers.TaskMeant.the-variants.{Task, NoTask}
 use Rattle.board.specs.declared.numbers.MessageMeant.the-variants.{Message, NoMessage}
 use Rattle.board.specs.Numbers.{outside, taskMeant, messageMeant, numberOfTask, numberOfMessage, onBoard}

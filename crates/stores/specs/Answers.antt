@@ -14,8 +14,6 @@ use mathlib.Core.List.{List, [], _∷_}
 use Prim.Native.Nat.{ℕ, _≤_}
 use lib.ListN.{length}
 use Rattle.board.specs.declared.numbers.Size.{Size}
-use Rattle.board.specs.declared.numbers.TaskNo.{TaskNo}
-use Rattle.board.specs.declared.numbers.MsgNo.{MsgNo}
 use Rattle.board.specs.declared.numbers.TaskMeant.{TaskMeant}
 use Rattle.board.specs.declared.numbers.TaskMeant.the-variants.{Task, NoTask}
 use Rattle.board.specs.Numbers.{outside, taskNo, taskMeant}

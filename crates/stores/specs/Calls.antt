@@ -12,9 +12,6 @@ use mathlib.Core.Bool.{Bool, true, cond}
 use mathlib.Core.List.{List, [], _∷_}
 use Prim.Native.Nat.{ℕ}
 use Rattle.board.specs.declared.numbers.Size.{Size}
-use Rattle.board.specs.declared.records.Task.{Task}
-use Rattle.board.specs.declared.records.Message.{Message}
-use Rattle.board.specs.declared.status.Status.{Status}
 use Rattle.board.specs.Numbers.{outside, onBoard}
 use Rattle.board.specs.Status.{MHBS, has}
 use Rattle.board.specs.Board.{boardOf, task, message}

@@ -8,7 +8,6 @@
 use mathlib.Core.List.{List}
 use Prim.Native.Nat.{ℕ}
 use Rattle.board.specs.declared.numbers.Size.{Size}
-use Rattle.board.specs.declared.records.Task.{Task}
 use Rattle.board.specs.declared.places.Place.the-variants.{HeldBy}
 use Rattle.board.specs.Numbers.{taskNo}
 use Rattle.board.specs.Status.{withBit, withoutBit}

@@ -7,9 +7,6 @@ use Prim.Native.Nat.{ℕ}
 use lib.Dec.{eqb}
 use Rattle.links.specs.Queue.{walk, firstWith}
 use Rattle.board.specs.declared.numbers.Size.{Size}
-use Rattle.board.specs.declared.numbers.TaskNo.{TaskNo}
-use Rattle.board.specs.declared.status.Status.{Status}
-use Rattle.board.specs.declared.records.Task.{Task}
 use Rattle.board.specs.declared.records.Message.{Message}
 use Rattle.board.specs.declared.places.Place.the-variants.{Free, HeldBy, QueuedAt}
 use Rattle.board.specs.Numbers.{outside, taskNo, onBoard}

@@ -14,8 +14,6 @@ use lib.Dec.{eqb}
 use Rattle.links.specs.Queue.{goesBefore}
 use Rattle.links.specs.Seek.{Spot, seek}
 use Rattle.board.specs.declared.numbers.Size.{Size}
-use Rattle.board.specs.declared.numbers.TaskNo.{TaskNo}
-use Rattle.board.specs.declared.numbers.MsgNo.{MsgNo}
 use Rattle.board.specs.declared.numbers.TaskMeant.{TaskMeant}
 use Rattle.board.specs.declared.numbers.TaskMeant.the-variants as tasks
 use Rattle.board.specs.declared.numbers.MessageMeant.{MessageMeant}
