@@ -10,6 +10,7 @@ use Prim.Native.Nat.{ℕ}
 use lib.Dec.{eqb, ltb}
 use Rattle.board.specs.declared.numbers.Size.{Size}
 use Rattle.board.specs.declared.numbers.TaskNo.{TaskNo}
+use Rattle.board.specs.declared.numbers.MsgNo.{MsgNo}
 use Rattle.board.specs.declared.numbers.TaskMeant.{TaskMeant}
 use Rattle.board.specs.declared.numbers.TaskMeant.the-variants.{Task, NoTask}
 use Rattle.board.specs.declared.numbers.MessageMeant.{MessageMeant}
@@ -23,6 +24,9 @@ outside last n = eqb n 0 || ltb last n
 
 abbrev pub taskNo : ℕ → TaskNo
 taskNo k = record { 0 = k }
+
+abbrev pub msgNo : ℕ → MsgNo
+msgNo m = record { 0 = m }
 
 abbrev pub taskMeant : Size → ℕ → TaskMeant
 taskMeant z w = cond (outside (z .tasks) w) NoTask (Task (record { 0 = w }))

@@ -1,5 +1,6 @@
 pub mod Cases
 pub mod Bools
+pub mod Smallest
 pub mod Members
 pub mod Chains
 pub mod Insertion

@@ -12,8 +12,9 @@
 --   lists ..            R3 and R5 alike: what the links of a queue must visit
 --   firstWith f q       the first of q that f is true of, 0 if none
 --   each f n            f is true of each number from 1 to n
+--   smallestFailing f n the smallest number from 1 to n that f is not true of, 0 if none
 -- Assumes nothing.
-use mathlib.Core.Bool.{Bool, true, false, _&&_}
+use mathlib.Core.Bool.{Bool, true, false, cond, _&&_}
 use mathlib.Core.List.{List, [], _∷_}
 use Prim.Native.Nat.{ℕ, zero, suc}
 use lib.Dec.{eqb, leb, ltb}
@@ -89,3 +90,11 @@ lists next number n x members =
 abbrev pub each : (ℕ → Bool) → ℕ → Bool
 each f zero = true
 each f (suc n) = each f n && f (suc n)
+
+abbrev pub orElse : ℕ → ℕ → ℕ
+orElse zero y = y
+orElse (suc x) y = suc x
+
+abbrev pub smallestFailing : (ℕ → Bool) → ℕ → ℕ
+smallestFailing f zero = 0
+smallestFailing f (suc n) = orElse (smallestFailing f n) (cond (f (suc n)) 0 (suc n))

@@ -10,8 +10,10 @@ use Rattle.board.specs.Board.{boardOf, message}
 use Rattle.paper.specs.declared.call.Call.{Call}
 use Rattle.paper.specs.declared.call.Call.the-variants.{Install, PostInterrupt, Find, Claim, Prepare, Release, Send, Resend, Forward}
 use Rattle.paper.specs.declared.call.Call.the-variants.{Return, Receive, ReceiveAndWait, CancelMessage, WaitForInterrupt}
+use Rattle.board.specs.Numbers.{taskNo}
 use Rattle.paper.specs.declared.answer.Answer.{Answer}
 use Rattle.paper.specs.declared.answer.Answer.the-variants.{Accepted, Refused}
+use Rattle.paper.specs.declared.answer.Rule.the-variants.{R5}
 use Rattle.paper.specs.declared.answer.Refusal.the-variants.{RuleBroken, NoSuchMessage, NotHeld, NoSuchTask, BadPriority}
 use Rattle.paper.specs.declared.answer.Refusal.the-variants.{NotInstallable, BadSender}
 use Rattle.paper.specs.Rules.{queue, order}
@@ -74,7 +76,7 @@ twoQueues next =
     ++ (65 ∷ 66 ∷ 65 ∷ 0 ∷ [])
 
 -- two queues that share a tail don't pass, and the same board with its own tails does
-case-shared-tail : check tiny (twoQueues 3) .answer ≡ Refused RuleBroken
+case-shared-tail : check tiny (twoQueues 3) .answer ≡ Refused (RuleBroken (R5 (taskNo 2)))
 case-shared-tail = refl
 
 case-own-tails : check tiny (twoQueues 0) .answer ≡ ok

@@ -11,18 +11,21 @@ use borrow.Author.Tests.{ltb-true, eqb-true, ne-eqb, not-false}
 use Rattle.links.specs.Chain.{In}
 use Rattle.links.proofs.Bools.{both, cond-holds, every}
 use Rattle.board.specs.declared.numbers.Size.{Size}
+use Rattle.board.specs.Numbers.{taskNo, msgNo}
 use Rattle.board.specs.Status.{MHBS, has}
 use Rattle.board.specs.Board.{Board, boardOf, bytesOf, task}
 use Rattle.paper.specs.declared.call.Call.{Call}
 use Rattle.paper.specs.declared.call.Call.the-variants.{Find}
 use Rattle.paper.specs.Arguments.{callsOf, argumentsOf}
+use Rattle.paper.specs.declared.answer.Rule.{Rule}
+use Rattle.paper.specs.declared.answer.Rule.the-variants.{R1, R2, R3, R4, R5, R6, R7}
 use Rattle.paper.specs.declared.answer.Refusal.{Refusal}
 use Rattle.paper.specs.declared.answer.Refusal.the-variants.{WrongLength, RuleBroken, NobodyRuns, NoSuchMessage, NotHeld, NoSuchTask}
 use Rattle.paper.specs.declared.answer.Refusal.the-variants.{BadPriority, NotInstallable, BadStatus, TaskBusy, NoneFree, NotQueued}
 use Rattle.paper.specs.declared.answer.Refusal.the-variants.{NotItsSender, BadSender, NothingToDeliver}
 use Rattle.paper.specs.declared.answer.Answer.{Answer}
 use Rattle.paper.specs.declared.answer.Answer.the-variants.{Accepted, Refused}
-use Rattle.paper.specs.Answers.{numberOf, Handed, handed}
+use Rattle.paper.specs.Answers.{ruleNumber, recordNumber, Told, told, numberOf, Handed, handed}
 use Rattle.paper.specs.Rules.{emptyQueue, running}
 use Rattle.paper.specs.Refusals.{Test, no1, no2, ownRow, row, Verdict, Go, Stop, lowest}
 use Rattle.paper.specs.Outcomes.{Outcome, Undispatched, accepted, refused, judge, deliver, dispatchTo, dispatch, body, blank, effect, check}
@@ -182,20 +185,35 @@ pub accepted-passed : AcceptedPassed
 accepted-passed z l = let b = boardOf z l in let (calls, checks, freshes) = lowest-is-given z l in
     ((λ call. only-passing z l (ownRow z b (running z b) call) (effect z l call) (calls call)), only-passing z l [] (check z l) checks)
 
--- ---- the paper's number and values tell the answer
-abbrev refusals : List Refusal
-refusals =
-    WrongLength ∷ RuleBroken ∷ NobodyRuns ∷ NoSuchMessage ∷ NotHeld ∷ NoSuchTask ∷ BadPriority ∷ NotInstallable ∷ BadStatus ∷ TaskBusy
+-- ---- the papers' numbers and values tell the answer
+-- the rule of each number, where it names n; the refusal of each number, where it comes with the rule r
+abbrev rules : ℕ → List Rule
+rules n = R1 ∷ R2 (taskNo n) ∷ R3 ∷ R4 (msgNo n) ∷ R5 (taskNo n) ∷ R6 (taskNo n) ∷ R7 (taskNo n) ∷ []
+
+abbrev ruleAt : ℕ → ℕ → Rule
+ruleAt i n = getD (rules n) (i - 1) R1
+
+abbrev refusals : Rule → List Refusal
+refusals r =
+    WrongLength ∷ RuleBroken r ∷ NobodyRuns ∷ NoSuchMessage ∷ NotHeld ∷ NoSuchTask ∷ BadPriority ∷ NotInstallable ∷ BadStatus ∷ TaskBusy
     ∷ NoneFree ∷ NotQueued ∷ NotItsSender ∷ BadSender ∷ NothingToDeliver ∷ []
 
-abbrev told : Handed → Answer
-told h =
-    cond (eqb (h .number) 0) (Accepted (h .value) (h .running) (h .delivered)) (Refused (getD refusals (h .number - 1) WrongLength))
+abbrev refusalOf : Told → Refusal
+refusalOf t = getD (refusals (ruleAt (t .rule) (t .recordNo))) (t .number - 1) WrongLength
 
--- each refusal stands at its number
-at-number : (q : Refusal) → getD refusals (numberOf q - 1) WrongLength ≡ q
+-- each rule and each refusal stands at its number
+at-rule : (r : Rule) → ruleAt (ruleNumber r) (recordNumber r) ≡ r
+at-rule R1 = refl
+at-rule (R2 k) = refl
+at-rule R3 = refl
+at-rule (R4 m) = refl
+at-rule (R5 k) = refl
+at-rule (R6 k) = refl
+at-rule (R7 k) = refl
+
+at-number : (q : Refusal) → refusalOf (told q) ≡ q
 at-number WrongLength = refl
-at-number RuleBroken = refl
+at-number (RuleBroken r) = ap RuleBroken (at-rule r)
 at-number NobodyRuns = refl
 at-number NoSuchMessage = refl
 at-number NotHeld = refl
@@ -214,19 +232,24 @@ at-number NothingToDeliver = refl
 pub refusal-number : (q : Refusal) → (0 < numberOf q) × (numberOf q < 16)
 refusal-number q =
     let test : Refusal → Bool = λ r. ltb 0 (numberOf r) && ltb (numberOf r) 16 in
-    let t = subst (λ (r : Refusal). test r ≡ true) (at-number q) (every-at test refusals WrongLength refl refl (numberOf q - 1)) in
+    let t = subst (λ (r : Refusal). test r ≡ true) (at-number q) (every-at test (refusals _) WrongLength refl refl (numberOf q - 1)) in
     let r = both (ltb 0 (numberOf q)) (ltb (numberOf q) 16) t in
     (ltb-true 0 (numberOf q) (r .0), ltb-true (numberOf q) 16 (r .1))
 
-told-handed : (a : Answer) → told (handed a) ≡ a
-told-handed (Accepted v c m) = refl
-told-handed (Refused q) =
+abbrev answerOf : Handed → Answer
+answerOf h =
+    cond (eqb (h .number) 0) (Accepted (h .value) (h .running) (h .delivered))
+    (Refused (refusalOf (record { number = h .number; rule = h .rule; recordNo = h .recordNo })))
+
+handed-back : (a : Answer) → answerOf (handed a) ≡ a
+handed-back (Accepted v c m) = refl
+handed-back (Refused q) =
     let n : numberOf q ≢ 0 = λ e. let r = refusal-number q .0 in absurd (omega arith) in
-    ap (λ (t : Bool). cond t (Accepted 0 0 0) (Refused (getD refusals (numberOf q - 1) WrongLength))) (ne-eqb (numberOf q) 0 n)
+    ap (λ (t : Bool). cond t (Accepted 0 0 0) (Refused (refusalOf (told q)))) (ne-eqb (numberOf q) 0 n)
     ∙ ap Refused (at-number q)
 
 pub handed-tells : HandedTells
-handed-tells a e h = sym (told-handed a) ∙ ap told h ∙ told-handed e
+handed-tells a e h = sym (handed-back a) ∙ ap answerOf h ∙ handed-back e
 
 -- ---- not a definition that refuses all, answers always the same, or writes nothing
 pub fresh-install-accepted : FreshInstallAccepted

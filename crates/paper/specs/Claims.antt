@@ -4,27 +4,39 @@
 --   AcceptedPassed      a call or a check is accepted only of bytes of the board's length whose board passes
 --   LowestIsGiven       the refusal that a call, check or fresh gives stands in its row and applies, and none of a lower number does; none is
 --                       given only where none applies
---   HandedTells         the paper's number and values tell the answer
+--   VerdictStays        2 is given exactly where the length is right and a rule is broken, and names what brokenRule says; a board that
+--                       passes is checked as before, with the same running task
+--   LowestIsNamed       the rule named is broken at the record named; no lower rule is broken, and no smaller record breaks that one
+--   WrongQueue          R5 at task k, in words: its own walk does not end, meets a message that is not queued there or misses one that
+--                       is, or a priority number falls
+--   RuleOnlyWith2       a rule, 1 to 7, comes with 2 alone, and no record but with a rule; none with R1 and R3
+--   HandedTells         the papers' numbers and values tell the answer
 --   FreshInstallAccepted, AnswersDiffer, InstallWrites   the definitions refuse not all, answer not always the same, and do write
 -- Assumes nothing.
 use mathlib.Core.Path.{_≡_}
-use mathlib.Core.Logic.{_≢_}
+use mathlib.Core.Logic.{_≢_, _⊎_, _↔_}
 use mathlib.Core.Bool.{true, false}
 use mathlib.Core.List.{List, [], _∷_}
-use Prim.Native.Nat.{ℕ, _≤_}
+use Prim.Native.Nat.{ℕ, _≤_, _<_}
 use lib.ListN.{length}
-use Rattle.links.specs.Chain.{In}
+use Rattle.links.specs.Queue.{ends, rising}
+use Rattle.links.specs.Chain.{In, Out}
 use Rattle.board.specs.declared.numbers.Size.{Size}
 use Rattle.board.specs.Numbers.{small}
-use Rattle.board.specs.Board.{total, boardOf}
+use Rattle.board.specs.Places.{isQueuedAt}
+use Rattle.board.specs.Board.{Board, total, boardOf, task, place}
 use Rattle.paper.specs.declared.call.Call.{Call}
 use Rattle.paper.specs.declared.call.Call.the-variants.{Install, Claim, Receive}
+use Rattle.paper.specs.declared.answer.Rule.{Rule}
+use Rattle.paper.specs.declared.answer.Rule.the-variants.{R1, R2, R3, R4, R5, R6, R7}
 use Rattle.paper.specs.declared.answer.Refusal.{Refusal}
-use Rattle.paper.specs.declared.answer.Refusal.the-variants.{NothingToDeliver}
+use Rattle.paper.specs.declared.answer.Refusal.the-variants.{RuleBroken, NothingToDeliver}
 use Rattle.paper.specs.declared.answer.Answer.{Answer}
 use Rattle.paper.specs.declared.answer.Answer.the-variants.{Accepted, Refused}
-use Rattle.paper.specs.Answers.{numberOf, handed}
-use Rattle.paper.specs.Rules.{running, passes}
+use Rattle.paper.specs.Answers.{ruleNumber, recordNumber, numberOf, handed}
+use Rattle.paper.specs.Rules.{nextMessage, messageNumber, queue, running, passes}
+use Rattle.paper.specs.Rules.{rule1, rule2At, rule3, rule4At, rule5At, rule6At, rule7}
+use Rattle.paper.specs.Named.{brokenRule}
 use Rattle.paper.specs.Refusals.{Test, no1, no2, row}
 use Rattle.paper.specs.Outcomes.{Outcome, Ends, effect, fresh, check, blank}
 
@@ -60,6 +72,56 @@ LowestIsGiven =
     ((call : Call) → Given (effect z l call .answer) (row z l b (running z b) call))
     × Given (check z l .answer) (no1 z l ∷ no2 z b ∷ [])
     × Given (fresh z l .answer) (no1 z l ∷ [])
+
+-- ---- which rule, and at which record
+abbrev pub Names : Size → List ℕ → Answer → Type 0
+Names z l a = let b = boardOf z l in
+    ((handed a .number ≡ 2) ↔ ((length l ≡ total z) × (passes z b ≡ false)))
+    × (handed a .number ≡ 2 → a ≡ Refused (RuleBroken (brokenRule z b)))
+
+abbrev pub VerdictStays : Type 0
+VerdictStays =
+    (z : Size) (l : List ℕ) → let b = boardOf z l in
+    ((call : Call) → Names z l (effect z l call .answer)) × Names z l (check z l .answer)
+    × (length l ≡ total z → passes z b ≡ true → check z l .answer ≡ Accepted 0 (running z b) 0)
+
+-- a rule is broken at the record that it names
+abbrev pub Within : ℕ → ℕ → Type 0
+Within last n = (1 ≤ n) × (n ≤ last)
+
+abbrev pub BrokenAt : Size → Board → Rule → Type 0
+BrokenAt z b R1 = rule1 b ≡ false
+BrokenAt z b (R2 k) = Within (z .tasks) (k .0) × (rule2At b (k .0) ≡ false)
+BrokenAt z b R3 = rule3 z b ≡ false
+BrokenAt z b (R4 m) = Within (z .messages) (m .0) × (rule4At z b (m .0) ≡ false)
+BrokenAt z b (R5 k) = Within (z .tasks) (k .0) × (rule5At z b (k .0) ≡ false)
+BrokenAt z b (R6 k) = Within (z .tasks) (k .0) × (rule6At b (k .0) ≡ false)
+BrokenAt z b (R7 k) = Within (z .tasks) (k .0) × (k .0 ≡ running z b) × (rule7 z b ≡ false)
+
+-- r is a lower rule than s, or the same with no greater record
+abbrev pub NoLater : Rule → Rule → Type 0
+NoLater r s = (ruleNumber r < ruleNumber s) ⊎ ((ruleNumber r ≡ ruleNumber s) × (recordNumber r ≤ recordNumber s))
+
+abbrev pub LowestIsNamed : Type 0
+LowestIsNamed =
+    (z : Size) (l : List ℕ) → let b = boardOf z l in let r = brokenRule z b in
+    passes z b ≡ false → BrokenAt z b r × ((s : Rule) → BrokenAt z b s → NoLater r s)
+
+-- what is wrong with the queue of task k
+pub data Fault (z : Size) (b : Board) (k : ℕ) : Type 0 where
+  NoEnd : ends (nextMessage b) (z .messages) (task b k .mptr) ≡ false → Fault z b k
+  Meets : (m : ℕ) → In m (queue z b k) → isQueuedAt k (place b m) ≡ false → Fault z b k
+  Misses : (m : ℕ) → isQueuedAt k (place b m) ≡ true → Out m (queue z b k) → Fault z b k
+  Falls : rising (messageNumber b) 0 (queue z b k) ≡ false → Fault z b k
+
+abbrev pub WrongQueue : Type 0
+WrongQueue = (z : Size) (b : Board) (k : ℕ) → (rule5At z b k ≡ false) ↔ Fault z b k
+
+abbrev pub RuleOnlyWith2 : Type 0
+RuleOnlyWith2 =
+    (a : Answer) → let h = handed a in
+    (h .number ≡ 2 → (1 ≤ h .rule) × (h .rule ≤ 7)) × (h .number ≢ 2 → h .rule ≡ 0)
+    × (h .rule ≡ 0 → h .recordNo ≡ 0) × (h .rule ≡ 1 → h .recordNo ≡ 0) × (h .rule ≡ 3 → h .recordNo ≡ 0)
 
 abbrev pub HandedTells : Type 0
 HandedTells = (a e : Answer) → handed a ≡ handed e → a ≡ e

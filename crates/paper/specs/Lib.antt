@@ -1,5 +1,6 @@
 pub mod Answers
 pub mod Rules
+pub mod Named
 pub mod Changes
 pub mod Effects
 pub mod Refusals

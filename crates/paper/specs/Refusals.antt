@@ -24,6 +24,7 @@ use Rattle.paper.specs.declared.answer.Refusal.the-variants.{WrongLength
 use Rattle.paper.specs.declared.answer.Refusal.the-variants.{BadPriority, NotInstallable, BadStatus, TaskBusy, NoneFree, NotQueued}
 use Rattle.paper.specs.declared.answer.Refusal.the-variants.{NotItsSender, BadSender}
 use Rattle.paper.specs.Rules.{present, emptyQueue, taskPrio, passes}
+use Rattle.paper.specs.Named.{brokenRule}
 use Rattle.paper.specs.Effects.{lowestFree}
 
 pub record Test : Type 0 where
@@ -38,7 +39,7 @@ abbrev pub no1 : Size → List ℕ → Test
 no1 z l = test WrongLength (not (eqb (length l) (total z)))
 
 abbrev pub no2 : Size → Board → Test
-no2 z b = test RuleBroken (not (passes z b))
+no2 z b = test (RuleBroken (brokenRule z b)) (not (passes z b))
 
 abbrev pub no3 : ℕ → Test
 no3 c = test NobodyRuns (eqb c 0)

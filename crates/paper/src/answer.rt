@@ -1,7 +1,22 @@
-// An answer is accepted or refused. The number that the paper gives each refusal is a definition (specs/Answers).
+// An answer is accepted or refused, and a broken rule is told with the record. The numbers that the papers give are definitions
+// (specs/Answers).
+use board::numbers::MsgNo;
+use board::numbers::TaskNo;
+
+// A broken rule, with the task or message that breaks it where the rule is one for each record.
+pub enum Rule {
+    R1,
+    R2(TaskNo),
+    R3,
+    R4(MsgNo),
+    R5(TaskNo),
+    R6(TaskNo),
+    R7(TaskNo),
+}
+
 pub enum Refusal {
     WrongLength,
-    RuleBroken,
+    RuleBroken(Rule),
     NobodyRuns,
     NoSuchMessage,
     NotHeld,
