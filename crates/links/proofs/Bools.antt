@@ -1,4 +1,4 @@
--- Two tests at once, a choice, a test of each number from 1 to n, and one of each in a list.
+-- A test that cannot pass, two tests at once, a choice, a test of each number from 1 to n, and one of each in a list.
 -- Assumes nothing.
 use mathlib.Core.Path.{_≡_, refl, sym, ap, _∙_}
 use mathlib.Core.Bool.{Bool, true, false, cond, _&&_, true≢false}
@@ -8,6 +8,12 @@ use native.Mathlib.Omega.{arith}
 use native.Mathlib.Decide.{ℕ-discrete}
 use Rattle.links.specs.Queue.{each}
 use Rattle.links.specs.Chain.{All}
+
+-- ---- one test
+-- one that cannot pass fails
+pub refuted : (t : Bool) → (t ≡ true → ⊥) → t ≡ false
+refuted true h = absurd (h refl)
+refuted false h = refl
 
 -- ---- two tests
 -- where both together pass, each passes
@@ -34,6 +40,10 @@ each-at f (suc n) e k h g = let r = both (each f n) (f (suc n)) e in step (r .1)
     step : f (suc n) ≡ true → Dec (k ≡ suc n) → (k ≤ n → f k ≡ true) → f k ≡ true
     step top (yes i) ih = ap f i ∙ top
     step top (no i) ih = ih (omega arith)
+
+-- where it fails for one, not each passes
+pub each-fails : (f : ℕ → Bool) (n k : ℕ) → 1 ≤ k → k ≤ n → f k ≡ false → each f n ≡ false
+each-fails f n k h g e = refuted (each f n) (λ a. true≢false (sym (each-at f n a k h g) ∙ e))
 
 -- what passes for any one passes for each
 pub each-all : (f : ℕ → Bool) (n : ℕ) → ((k : ℕ) → 1 ≤ k → k ≤ n → f k ≡ true) → each f n ≡ true

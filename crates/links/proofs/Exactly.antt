@@ -1,7 +1,7 @@
 -- R3's and R5's 'exactly .. once each': `rearranged q l` says that each number stands as often in q as in l, and `which` lists
 -- each that passes, once.
 -- Assumes nothing.
-use mathlib.Core.Path.{_≡_, refl, sym, ap}
+use mathlib.Core.Path.{_≡_, refl, sym, ap, _∙_}
 use mathlib.Core.Logic.{_≢_, _⊎_, inl, inr, ⊎-elim, _↔_}
 use mathlib.Core.Bool.{Bool, true, false, true≢false}
 use mathlib.Core.List.{List, [], _∷_, _++_}
@@ -14,7 +14,7 @@ use borrow.Author.Tests.{eq-eqb, ne-eqb}
 use Rattle.links.specs.Queue.{isIn, without, consIf, which, rearranged}
 use Rattle.links.specs.Chain.{In, Out, Once, All}
 use Rattle.links.proofs.Bools.{both, and-true}
-use Rattle.links.proofs.Members.{out-not-in, not-in-out, in-dec, isIn-in, in-isIn, all-at, all-of}
+use Rattle.links.proofs.Members.{out-not-in, not-in-out, in-dec, all-in, isIn-in, in-isIn, all-at, all-of}
 use Rattle.links.proofs.Removal.{without-cases, in-without-other, length-without}
 
 -- ---- how often one stands in a list
@@ -126,6 +126,19 @@ once-rearranged q l d g h = times-rearranged q l (λ y. step y (in-dec y q) (in-
     step y (inl i) (inr o) = absurd (out-not-in y l o (h y .0 i))
     step y (inr o) (inl j) = absurd (out-not-in y q o (h y .1 j))
     step y (inr o) (inr u) = omega (arith, out-times y q o, out-times y l u)
+
+-- so of two such lists of which it does not hold one has a member that the other has not
+pub not-rearranged : (q l : List ℕ) → Once q → Once l → rearranged q l ≡ false
+    → ((y : ℕ) × In y q × Out y l) ⊎ ((y : ℕ) × In y l × Out y q)
+not-rearranged q l d g h = step (all-in q l) (all-in l q)
+  where
+    step : All (λ y. In y l) q ⊎ ((y : ℕ) × In y q × Out y l) → All (λ y. In y q) l ⊎ ((y : ℕ) × In y l × Out y q)
+        → ((y : ℕ) × In y q × Out y l) ⊎ ((y : ℕ) × In y l × Out y q)
+    step (inr m) r = inl m
+    step (inl a) (inr m) = inr m
+    step (inl a) (inl c) =
+        let e = once-rearranged q l d g (λ y. (all-at (λ x. In x l) q a y, all-at (λ x. In x q) l c y)) in
+        absurd (true≢false (sym e ∙ h))
 
 -- of a list with no repeats, of members of l only, as many as there are: so it has them all
 pub counted-rearranged : (q l : List ℕ) → Once q → All (λ y. In y l) q → length q ≡ length l → rearranged q l ≡ true

@@ -35,6 +35,17 @@ in-dec x (y ∷ q) = step (ℕ-discrete x y) (in-dec x q)
     step (no h) (inl i) = inl (inr i)
     step (no h) (inr o) = inr (h, o)
 
+-- all of q are in l, or one is out
+pub all-in : (q l : List ℕ) → All (λ y. In y l) q ⊎ ((y : ℕ) × In y q × Out y l)
+all-in [] l = inl tt
+all-in (x ∷ q) l = step (in-dec x l) (all-in q l)
+  where
+    step : In x l ⊎ Out x l → All (λ y. In y l) q ⊎ ((y : ℕ) × In y q × Out y l)
+        → All (λ y. In y l) (x ∷ q) ⊎ ((y : ℕ) × In y (x ∷ q) × Out y l)
+    step (inl i) (inl a) = inl (i, a)
+    step (inl i) (inr (y, j, o)) = inr (y, inr j, o)
+    step (inr o) r = inr (x, inl refl, o)
+
 -- the test says in
 pub isIn-in : (x : ℕ) (q : List ℕ) → isIn x q ≡ true → In x q
 isIn-in x [] h = absurd (true≢false (sym h))

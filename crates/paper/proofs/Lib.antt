@@ -2,3 +2,5 @@ pub mod Slips
 mod Served
 pub mod Rows
 pub mod Theorems
+pub mod Which
+pub mod Naming

@@ -8,7 +8,9 @@ use borrow.Author.Tests.{eq-eqb}
 use Rattle.board.specs.declared.numbers.Size.{Size}
 use Rattle.board.specs.Board.{Board, total}
 use Rattle.paper.specs.declared.call.Call.{Call}
+use Rattle.paper.specs.declared.answer.Refusal.the-variants.{RuleBroken}
 use Rattle.paper.specs.Rules.{passes}
+use Rattle.paper.specs.Named.{brokenRule}
 use Rattle.paper.specs.Refusals.{Test, no1, no2, ownRow, row, Stop, lowest}
 
 -- a test that applies stops
@@ -20,8 +22,17 @@ pub lowest-on : (t : Test) (tests : List Test) → t .applies ≡ false → lowe
 lowest-on t tests e = rw (e, lowest)
 
 -- on a board of the right length that passes, refusals 1 and 2 are passed
+pub rules-kept : (z : Size) (l : List ℕ) (b : Board) (tests : List Test) → length l ≡ total z → passes z b ≡ true
+    → lowest (no1 z l ∷ no2 z b ∷ tests) ≡ lowest tests
+rules-kept z l b tests long sound =
+    lowest-on (no1 z l) (no2 z b ∷ tests) (ap not (eq-eqb (length l) (total z) long)) ∙ lowest-on (no2 z b) tests (ap not sound)
+
 pub row-own : (z : Size) (l : List ℕ) (b : Board) (c : ℕ) (call : Call) → length l ≡ total z → passes z b ≡ true
     → lowest (row z l b c call) ≡ lowest (ownRow z b c call)
-row-own z l b c call long sound =
-    lowest-on (no1 z l) (no2 z b ∷ ownRow z b c call) (ap not (eq-eqb (length l) (total z) long))
-    ∙ lowest-on (no2 z b) (ownRow z b c call) (ap not sound)
+row-own z l b c call = rules-kept z l b (ownRow z b c call)
+
+-- where it does not pass, 2 stops
+pub rule-broken : (z : Size) (l : List ℕ) (b : Board) (tests : List Test) → length l ≡ total z → passes z b ≡ false
+    → lowest (no1 z l ∷ no2 z b ∷ tests) ≡ Stop (RuleBroken (brokenRule z b))
+rule-broken z l b tests long broken =
+    lowest-on (no1 z l) (no2 z b ∷ tests) (ap not (eq-eqb (length l) (total z) long)) ∙ lowest-stop (no2 z b) tests (ap not broken)

@@ -1,7 +1,7 @@
 -- The claims of specs/Claims, proved. Assumes nothing.
 use mathlib.Core.Path.{_≡_, refl, sym, ap, _∙_, subst}
 use mathlib.Core.Logic.{_≢_, inl, inr}
-use mathlib.Core.Bool.{Bool, true, false, cond, _&&_, true≢false}
+use mathlib.Core.Bool.{Bool, true, false, cond, _&&_, _||_, true≢false}
 use mathlib.Core.List.{List, [], _∷_}
 use Prim.Native.Nat.{ℕ, zero, suc, _-_, _≤_, _<_}
 use native.Mathlib.Omega.{arith}
@@ -73,7 +73,7 @@ Decided (Stop q) tests =
     × ((t : Test) → In t tests → t .applies ≡ true → numberOf q ≤ numberOf (t .refusal))
 
 -- the numbers of the tests ascend from above n, and stay below 15
-abbrev ascends : ℕ → List Test → Bool
+abbrev pub ascends : ℕ → List Test → Bool
 ascends n [] = ltb n 15
 ascends n (t ∷ tests) = ltb n (numberOf (t .refusal)) && ascends (numberOf (t .refusal)) tests
 
@@ -83,7 +83,8 @@ ascends-on : (n : ℕ) (t : Test) (tests : List Test) → ascends n (t ∷ tests
 ascends-on n t tests h =
     let r = both (ltb n (numberOf (t .refusal))) (ascends (numberOf (t .refusal)) tests) h in (ltb-true n _ (r .0), r .1)
 
-in-above : (n : ℕ) (tests : List Test) → ascends n tests ≡ true → (t : Test) → In t tests → n ≤ numberOf (t .refusal)
+-- so each is above n
+pub in-above : (n : ℕ) (tests : List Test) → ascends n tests ≡ true → (t : Test) → In t tests → n < numberOf (t .refusal)
 in-above n [] h t i = absurd i
 in-above n (s ∷ tests) h t (inl e) =
     let k = ascends-on n s tests h .0 in let q = ap (λ (x : Test). numberOf (x .refusal)) e in omega arith
@@ -111,7 +112,7 @@ decided n (s ∷ tests) h = go (s .applies) refl (decided _ tests (ascends-on n 
 
     none-lower : (t : Test) → In t (s ∷ tests) → t .applies ≡ true → numberOf (s .refusal) ≤ numberOf (t .refusal)
     none-lower t (inl q) a = let p = ap (λ (x : Test). numberOf (x .refusal)) q in omega arith
-    none-lower t (inr i) a = in-above (numberOf (s .refusal)) tests (ascends-on n s tests h .1) t i
+    none-lower t (inr i) a = let k = in-above (numberOf (s .refusal)) tests (ascends-on n s tests h .1) t i in omega arith
 
     go : (v : Bool) → s .applies ≡ v → Decided (lowest tests) tests
         → Decided (elim v [ true ↦ Stop (s .refusal) | false ↦ lowest tests ]) (s ∷ tests)
@@ -126,7 +127,7 @@ every-at test (x ∷ l) other o h zero = both (test x) (every test l) h .0
 every-at test (x ∷ l) other o h (suc i) = every-at test l other o (both (test x) (every test l) h .1) i
 
 -- every row of the table of calls ascends: computed for the calls of all kinds, and a call is one of them
-row-ascends : (z : Size) (l : List ℕ) (b : Board) (c : ℕ) (call : Call) → ascends 0 (row z l b c call) ≡ true
+pub row-ascends : (z : Size) (l : List ℕ) (b : Board) (c : ℕ) (call : Call) → ascends 0 (row z l b c call) ≡ true
 row-ascends z l b c call =
     let test : Call → Bool = λ x. ascends 0 (row z l b c x) in
     let a = argumentsOf call in
@@ -190,7 +191,7 @@ accepted-passed z l = let b = boardOf z l in let (calls, checks, freshes) = lowe
 abbrev rules : ℕ → List Rule
 rules n = R1 ∷ R2 (taskNo n) ∷ R3 ∷ R4 (msgNo n) ∷ R5 (taskNo n) ∷ R6 (taskNo n) ∷ R7 (taskNo n) ∷ []
 
-abbrev ruleAt : ℕ → ℕ → Rule
+abbrev pub ruleAt : ℕ → ℕ → Rule
 ruleAt i n = getD (rules n) (i - 1) R1
 
 abbrev refusals : Rule → List Refusal
@@ -202,7 +203,7 @@ abbrev refusalOf : Told → Refusal
 refusalOf t = getD (refusals (ruleAt (t .rule) (t .recordNo))) (t .number - 1) WrongLength
 
 -- each rule and each refusal stands at its number
-at-rule : (r : Rule) → ruleAt (ruleNumber r) (recordNumber r) ≡ r
+pub at-rule : (r : Rule) → ruleAt (ruleNumber r) (recordNumber r) ≡ r
 at-rule R1 = refl
 at-rule (R2 k) = refl
 at-rule R3 = refl
@@ -228,13 +229,31 @@ at-number NotItsSender = refl
 at-number BadSender = refl
 at-number NothingToDeliver = refl
 
--- which is from 1 to 15
+-- so what is computed of each is so of any
+every-refusal : (test : Refusal → Bool) → ((r : Rule) → every test (refusals r) ≡ true) → (q : Refusal) → test q ≡ true
+every-refusal test h q =
+    let l = h (ruleAt (told q .rule) (told q .recordNo)) in
+    subst (λ (x : Refusal). test x ≡ true) (at-number q) (every-at test (refusals _) WrongLength (both _ _ l .0) l (numberOf q - 1))
+
+-- its number is from 1 to 15
 pub refusal-number : (q : Refusal) → (0 < numberOf q) × (numberOf q < 16)
 refusal-number q =
-    let test : Refusal → Bool = λ r. ltb 0 (numberOf r) && ltb (numberOf r) 16 in
-    let t = subst (λ (r : Refusal). test r ≡ true) (at-number q) (every-at test (refusals _) WrongLength refl refl (numberOf q - 1)) in
+    let t = every-refusal (λ r. ltb 0 (numberOf r) && ltb (numberOf r) 16) (λ r. refl) q in
     let r = both (ltb 0 (numberOf q)) (ltb (numberOf q) 16) t in
     (ltb-true 0 (numberOf q) (r .0), ltb-true (numberOf q) 16 (r .1))
+
+-- 2 is a broken rule
+pub number-2 : (q : Refusal) → numberOf q ≡ 2 → (r : Rule) × (q ≡ RuleBroken r)
+number-2 q e =
+    let r = ruleAt (told q .rule) (told q .recordNo) in
+    (r, sym (at-number q) ∙ ap (λ (n : ℕ). getD (refusals r) (n - 1) WrongLength) e)
+
+-- any other is told by its number alone
+pub others-told : (q : Refusal) → numberOf q ≢ 2 → (told q .rule ≡ 0) × (told q .recordNo ≡ 0)
+others-told q n =
+    let t = every-refusal (λ r. eqb (numberOf r) 2 || (eqb (told r .rule) 0 && eqb (told r .recordNo) 0)) (λ r. refl) q in
+    let r = both (eqb (told q .rule) 0) (eqb (told q .recordNo) 0) (rw (ne-eqb (numberOf q) 2 n) at t) in
+    (eqb-true (told q .rule) 0 (r .0), eqb-true (told q .recordNo) 0 (r .1))
 
 abbrev answerOf : Handed → Answer
 answerOf h =

@@ -1,0 +1,223 @@
+-- The claims of specs/Claims on the rule and the record that refusal 2 names, proved. Assumes nothing.
+use mathlib.Core.Path.{_≡_, refl, sym, ap, _∙_, subst}
+use mathlib.Core.Logic.{inl, inr, _↔_}
+use mathlib.Core.Bool.{Bool, true, false, true≢false}
+use mathlib.Core.List.{List, [], _∷_}
+use Prim.Native.Nat.{ℕ, suc, _-_, _≤_}
+use native.Mathlib.Omega.{arith}
+use native.Mathlib.Decide.{ℕ-discrete}
+use lib.ListN.{length, getD}
+use lib.Dec.{leb, lit≤}
+use borrow.Author.Tests.{leb-true, leb-false, eqb-true, not-false, not-true}
+use Rattle.links.specs.Queue.{ends, which, rearranged, rising, each, smallestFailing}
+use Rattle.links.specs.Chain.{In, Out}
+use Rattle.links.proofs.Bools.{refuted, and-true, cond-holds, each-at, each-fails}
+use Rattle.links.proofs.Smallest.{smallest-one, smallest-fails, smallest-least}
+use Rattle.links.proofs.Members.{out-not-in}
+use Rattle.links.proofs.Exactly.{rearranged-in, which-once}
+use Rattle.links.proofs.Listed.{lists-parts, lists-fails}
+use Rattle.board.specs.declared.numbers.Size.{Size}
+use Rattle.board.specs.declared.places.Place.the-variants.{Free}
+use Rattle.board.specs.Records.{noTask}
+use Rattle.board.specs.Status.{MHBS, has}
+use Rattle.board.specs.Places.{isQueuedAt}
+use Rattle.board.specs.Board.{Board, total, boardOf, task, place}
+use Rattle.board.proofs.Codec.{length-tasks}
+use Rattle.paper.specs.declared.answer.Rule.{Rule}
+use Rattle.paper.specs.declared.answer.Rule.the-variants.{R1, R2, R3, R4, R5, R6, R7}
+use Rattle.paper.specs.declared.answer.Refusal.{Refusal}
+use Rattle.paper.specs.declared.answer.Refusal.the-variants.{RuleBroken}
+use Rattle.paper.specs.declared.answer.Answer.{Answer}
+use Rattle.paper.specs.declared.answer.Answer.the-variants.{Accepted, Refused}
+use Rattle.paper.specs.Answers.{ruleNumber, recordNumber, told, numberOf, handed}
+use Rattle.paper.specs.Rules.{nextMessage, messageNumber, queue, running, passes}
+use Rattle.paper.specs.Rules.{rule1, rule2At, rule3, rule4At, rule5At, rule6At, rule7}
+use Rattle.paper.specs.Named.{unless, brokenRule}
+use Rattle.paper.specs.Refusals.{Test, no1, no2, ownRow, Verdict, lowest}
+use Rattle.paper.specs.Outcomes.{Outcome, accepted, judge, dispatch, body}
+use Rattle.paper.specs.Claims.{Given, Names, VerdictStays, Within, BrokenAt, NoLater, LowestIsNamed}
+use Rattle.paper.specs.Claims.{Fault, NoEnd, Meets, Misses, Falls, WrongQueue, RuleOnlyWith2}
+use Rattle.paper.proofs.Rows.{rules-kept, rule-broken}
+use Rattle.paper.proofs.Theorems.{ascends, in-above, row-ascends, lowest-is-given, ruleAt, at-rule, number-2, others-told}
+use Rattle.paper.proofs.Which.{nth-numbered, which-nth}
+
+-- ---- 2 is given where the length is right and a rule is broken, and nowhere else
+module _ (z : Size) (l : List ℕ) (tests : List Test) where
+  -- the tests of a call or of the check, and the answer where the outcome is o if none applies
+  abbrev all : List Test
+  all = no1 z l ∷ no2 z (boardOf z l) ∷ tests
+
+  abbrev answered : Outcome → Answer
+  answered o = judge l (lowest all) o .answer
+
+  -- there it is given, and names the rule
+  gives-2 : (o : Outcome) → length l ≡ total z → passes z (boardOf z l) ≡ false
+      → answered o ≡ Refused (RuleBroken (brokenRule z (boardOf z l)))
+  gives-2 o long broken = ap (λ (v : Verdict). judge l v o .answer) (rule-broken z l (boardOf z l) tests long broken)
+
+  -- where nothing below 2 applies the length is right
+  right-length : ((t : Test) → In t all → t .applies ≡ true → 2 ≤ numberOf (t .refusal)) → length l ≡ total z
+  right-length low =
+      eqb-true (length l) (total z) (not-false _ (refuted _ (λ a. let k = low (no1 z l) (inl refl) a in omega arith)))
+
+  -- the test of number 2 is that of the rules, where those behind it are above 2
+  is-no2 : ascends 2 tests ≡ true → (t : Test) → In t all → numberOf (t .refusal) ≡ 2 → t ≡ no2 z (boardOf z l)
+  is-no2 above t (inl e) n = let k = ap (λ (x : Test). numberOf (x .refusal)) e in absurd (omega arith)
+  is-no2 above t (inr (inl e)) n = e
+  is-no2 above t (inr (inr i)) n = let k = in-above 2 tests above t i in absurd (omega arith)
+
+  only-there : ascends 2 tests ≡ true → (a : Answer) → Given a all → handed a .number ≡ 2
+      → (length l ≡ total z) × (passes z (boardOf z l) ≡ false)
+  only-there above (Accepted v c m) g n = absurd (omega arith)
+  only-there above (Refused q) g n =
+      let ((t, i, a, r), low) = g (λ e. let k = ap numberOf e in omega arith) in
+      let e = is-no2 above t i (ap numberOf r ∙ n) in
+      (right-length (λ t i a. let k = low t i a in omega arith), not-true _ (sym (ap (λ (x : Test). x .applies) e) ∙ a))
+
+  names : ascends 2 tests ≡ true → (o : Outcome) → Given (answered o) all → Names z l (answered o)
+  names above o g =
+      let there = only-there above (answered o) g in
+      ((there, λ h. ap (λ (a : Answer). handed a .number) (gives-2 o (h .0) (h .1))), λ n. gives-2 o (there n .0) (there n .1))
+
+pub verdict-stays : VerdictStays
+verdict-stays z l = let b = boardOf z l in let c = running z b in let (calls, checks, freshes) = lowest-is-given z l in (
+  (λ call. names z l (ownRow z b c call) (row-ascends z l b c call) (dispatch z l (body z b c call)) (calls call)),
+  names z l [] refl (accepted 0 c 0 l) checks,
+  λ long sound. ap (λ (v : Verdict). judge l v (accepted 0 c 0 l) .answer) (rules-kept z l b [] long sound),
+)
+
+-- ---- the lowest rule is named, with the smallest record
+-- a rule has a number from 1 to 7
+rule-number : (r : Rule) → Within 7 (ruleNumber r)
+rule-number R1 = (lit≤ tt, lit≤ tt)
+rule-number (R2 k) = (lit≤ tt, lit≤ tt)
+rule-number R3 = (lit≤ tt, lit≤ tt)
+rule-number (R4 m) = (lit≤ tt, lit≤ tt)
+rule-number (R5 k) = (lit≤ tt, lit≤ tt)
+rule-number (R6 k) = (lit≤ tt, lit≤ tt)
+rule-number (R7 k) = (lit≤ tt, lit≤ tt)
+
+module _ (z : Size) (b : Board) where
+  -- the rules as tests, by their numbers
+  abbrev rule : ℕ → Bool
+  rule i =
+      getD (rule1 b ∷ each (rule2At b) (z .tasks) ∷ rule3 z b ∷ each (rule4At z b) (z .messages) ∷ each (rule5At z b) (z .tasks)
+      ∷ each (rule6At b) (z .tasks) ∷ rule7 z b ∷ []) (i - 1) true
+
+  -- one that is broken at a record fails
+  broken-fails : (r : Rule) → BrokenAt z b r → rule (ruleNumber r) ≡ false
+  broken-fails R1 h = h
+  broken-fails (R2 k) ((l, u), e) = each-fails (rule2At b) (z .tasks) (k .0) l u e
+  broken-fails R3 h = h
+  broken-fails (R4 m) ((l, u), e) = each-fails (rule4At z b) (z .messages) (m .0) l u e
+  broken-fails (R5 k) ((l, u), e) = each-fails (rule5At z b) (z .tasks) (k .0) l u e
+  broken-fails (R6 k) ((l, u), e) = each-fails (rule6At b) (z .tasks) (k .0) l u e
+  broken-fails (R7 k) (w, c, e) = e
+
+  -- r is broken, and of those of its number at the smallest record
+  abbrev Smallest : Rule → Type 0
+  Smallest r = BrokenAt z b r × ((n : ℕ) → BrokenAt z b (ruleAt (ruleNumber r) n) → recordNumber r ≤ n)
+
+  abbrev Lowest : Rule → Type 0
+  Lowest r = BrokenAt z b r × ((s : Rule) → BrokenAt z b s → NoLater r s)
+
+  -- where the rules before it hold it is the lowest
+  lowest-of : (r : Rule) → each rule (ruleNumber r - 1) ≡ true → Smallest r → Lowest r
+  lowest-of r h (e, least) = (e, later)
+    where
+      later : (s : Rule) → BrokenAt z b s → NoLater r s
+      later s g = step (ℕ-discrete (ruleNumber r) (ruleNumber s)) (leb (ruleNumber s) (ruleNumber r - 1)) refl
+        where
+          step : Dec (ruleNumber r ≡ ruleNumber s) → (t : Bool) → leb (ruleNumber s) (ruleNumber r - 1) ≡ t → NoLater r s
+          step (yes i) t k =
+              let at = subst (λ (n : ℕ). BrokenAt z b (ruleAt n (recordNumber s))) (sym i) (subst (BrokenAt z b) (sym (at-rule s)) g) in
+              inr (i, least (recordNumber s) at)
+          step (no i) true k =
+              let holds = each-at rule (ruleNumber r - 1) h (ruleNumber s) (rule-number s .0) (leb-true _ _ k) in
+              absurd (true≢false (sym holds ∙ broken-fails s g))
+          step (no i) false k = let j = leb-false (ruleNumber s) (ruleNumber r - 1) k in inl (omega arith)
+
+  -- the rules in order: r where it is broken, else one of those behind it
+  lowest-unless : (n : ℕ) (r s : Rule) → each rule n ≡ true → ruleNumber r ≡ suc n → (rule (suc n) ≡ false → Smallest r)
+      → (each rule (suc n) ≡ true → Lowest s) → Lowest (unless (rule (suc n)) r s)
+  lowest-unless n r s h i here behind =
+      cond-holds Lowest (rule (suc n)) s r (λ e. behind (and-true (each rule n) (rule (suc n)) h e))
+      (λ e. let j : n ≡ ruleNumber r - 1 = omega arith in lowest-of r (rw (← j) h) (here e))
+
+-- R2, R4, R5 and R6 alike
+smallest : (f : ℕ → Bool) (n : ℕ) → each f n ≡ false → let k = smallestFailing f n in
+    (Within n k × (f k ≡ false)) × ((i : ℕ) → Within n i × (f i ≡ false) → k ≤ i)
+smallest f n e = ((smallest-one f n e, smallest-fails f n e), λ i (w, g). smallest-least f n e i (w .0) g)
+
+-- R7 names a task: a number outside the board is due no message
+running-within : (z : Size) (l : List ℕ) → let b = boardOf z l in rule7 z b ≡ false → Within (z .tasks) (running z b)
+running-within z l e = let b = boardOf z l in
+    subst (λ (n : ℕ). Within n (running z b)) (length-tasks z l)
+    (nth-numbered noTask (λ t. has (t .stat) MHBS) (b .tasks) refl (running z b) (not-false _ e))
+
+pub lowest-is-named : LowestIsNamed
+lowest-is-named z l broken = let b = boardOf z l in
+    lowest-unless z b 0 R1 _ refl refl (λ e. (e, λ n h. omega arith))
+    (λ h. lowest-unless z b 1 (R2 _) _ h refl (smallest (rule2At b) (z .tasks))
+    (λ h. lowest-unless z b 2 R3 _ h refl (λ e. (e, λ n h. omega arith))
+    (λ h. lowest-unless z b 3 (R4 _) _ h refl (smallest (rule4At z b) (z .messages))
+    (λ h. lowest-unless z b 4 (R5 _) _ h refl (smallest (rule5At z b) (z .tasks))
+    (λ h. lowest-unless z b 5 (R6 _) _ h refl (smallest (rule6At b) (z .tasks))
+    (λ h. let e = refuted (rule7 z b) (λ e. true≢false (sym (and-true _ _ h e) ∙ broken)) in
+    lowest-of z b (R7 _) h ((running-within z l e, refl, e), λ n (w, c, g). omega arith)))))))
+
+-- ---- R5 at task k, in words
+module _ (z : Size) (b : Board) (k : ℕ) where
+  -- the messages queued there
+  abbrev own : List ℕ
+  own = which (isQueuedAt k) 1 (b .places)
+
+  own-queued : (m : ℕ) → In m own ↔ (isQueuedAt k (place b m) ≡ true)
+  own-queued = which-nth Free (isQueuedAt k) (b .places) refl
+
+  not-queued : (m : ℕ) → Out m own → isQueuedAt k (place b m) ≡ false
+  not-queued m o = refuted _ (λ e. out-not-in m own o (own-queued m .1 e))
+
+  -- where it is broken there is a fault
+  faulty : rule5At z b k ≡ false → Fault z b k
+  faulty =
+      lists-fails (nextMessage b) (messageNumber b) (z .messages) (task b k .mptr) own (Fault z b k)
+      (which-once (isQueuedAt k) 1 (b .places)) NoEnd (λ m i o. Meets m i (not-queued m o)) (λ m i. Misses m (own-queued m .0 i)) Falls
+
+  -- where it holds, its parts do, and there is none
+  parts : rule5At z b k ≡ true
+      → (ends (nextMessage b) (z .messages) (task b k .mptr) ≡ true) × (rearranged (queue z b k) own ≡ true)
+      × (rising (messageNumber b) 0 (queue z b k) ≡ true)
+  parts = lists-parts (nextMessage b) (messageNumber b) (z .messages) (task b k .mptr) own
+
+  faultless : rule5At z b k ≡ true → Fault z b k → ⊥
+  faultless e (NoEnd h) = true≢false (sym (parts e .0) ∙ h)
+  faultless e (Meets m i h) = true≢false (sym (own-queued m .0 (rearranged-in (queue z b k) own (parts e .1) m .0 i)) ∙ h)
+  faultless e (Misses m h o) = out-not-in m (queue z b k) o (rearranged-in (queue z b k) own (parts e .1) m .1 (own-queued m .1 h))
+  faultless e (Falls h) = true≢false (sym (parts e .2) ∙ h)
+
+pub wrong-queue : WrongQueue
+wrong-queue z b k = (faulty z b k, λ f. refuted (rule5At z b k) (λ e. faultless z b k e f))
+
+-- ---- a rule only with 2
+-- what a refusal names where the rule of its number names none
+no-record : (q : Refusal) (i : ℕ) → ((n : ℕ) → recordNumber (ruleAt i n) ≡ 0) → told q .rule ≡ i → told q .recordNo ≡ 0
+no-record q i none e = step (ℕ-discrete (numberOf q) 2)
+  where
+    step : Dec (numberOf q ≡ 2) → told q .recordNo ≡ 0
+    step (yes two) =
+        let (r, is) = number-2 q two in
+        let number : ruleNumber r ≡ i = sym (ap (λ (x : Refusal). told x .rule) is) ∙ e in
+        ap (λ (x : Refusal). told x .recordNo) is ∙ ap recordNumber (sym (at-rule r))
+        ∙ ap (λ (j : ℕ). recordNumber (ruleAt j (recordNumber r))) number ∙ none (recordNumber r)
+    step (no other) = others-told q other .1
+
+pub rule-only-with-2 : RuleOnlyWith2
+rule-only-with-2 (Accepted v c m) = ((λ e. absurd (omega arith)), (λ n. refl), (λ e. refl), (λ e. refl), λ e. refl)
+rule-only-with-2 (Refused q) = (
+  (λ two. let (r, is) = number-2 q two in subst (λ (x : Refusal). Within 7 (told x .rule)) (sym is) (rule-number r)),
+  (λ other. others-told q other .0),
+  no-record q 0 (λ n. refl),
+  no-record q 1 (λ n. refl),
+  no-record q 3 (λ n. refl),
+)
