@@ -1,6 +1,9 @@
 //! What a call hands back.
 
-/// An answer: accepted with three numbers, or refused with one. A refused call has changed nothing.
+use crate::board::{MsgNo, TaskNo};
+
+/// An answer: accepted with three numbers, or refused with one, which for a broken rule says where. A refused call has changed
+/// nothing.
 #[derive(Clone, Copy, Debug, PartialEq, Eq)]
 pub enum Answer {
     /// The call was made.
@@ -16,14 +19,13 @@ pub enum Answer {
     Refused(Refusal),
 }
 
-/// Why a call is refused; the discriminant is the paper's number. The lowest that applies is given.
+/// Why a call is refused. The one of the lowest number that applies is given.
 #[derive(Clone, Copy, Debug, PartialEq, Eq)]
-#[repr(u8)]
 pub enum Refusal {
     /// The lent bytes are not as many as a board has.
-    Length = 1,
-    /// One of R1 to R7 is broken.
-    BrokenRule,
+    Length,
+    /// One of R1 to R7 is broken, and this one first.
+    BrokenRule(Rule),
     /// No task is running.
     NoneRunning,
     /// No message has this number.
@@ -55,33 +57,73 @@ pub enum Refusal {
 impl Refusal {
     /// The paper's number.
     pub fn number(self) -> u8 {
-        self as u8
+        match self {
+            Refusal::Length => 1,
+            Refusal::BrokenRule(_) => 2,
+            Refusal::NoneRunning => 3,
+            Refusal::NoMessage => 4,
+            Refusal::NotHeld => 5,
+            Refusal::NoTask => 6,
+            Refusal::Priority => 7,
+            Refusal::InstallNumber => 8,
+            Refusal::InstallStatus => 9,
+            Refusal::TaskBusy => 10,
+            Refusal::NoneFree => 11,
+            Refusal::NotQueued => 12,
+            Refusal::NotSender => 13,
+            Refusal::SenderNumber => 14,
+            Refusal::NothingToDeliver => 15,
+        }
+    }
+
+    /// The broken rule, if it is for one that the call is refused.
+    pub fn rule(self) -> Option<Rule> {
+        match self {
+            Refusal::BrokenRule(rule) => Some(rule),
+            _ => None,
+        }
     }
 }
 
-/// A rule of the board; the discriminant is its number.
+/// A broken rule of the board, with the task or message that breaks it. Of several the lowest is named, then the smallest.
 #[derive(Clone, Copy, Debug, PartialEq, Eq)]
-#[repr(u8)]
 pub enum Rule {
     /// Bytes 1 to 3.
-    R1 = 1,
-    /// Task records.
-    R2,
+    R1,
+    /// The record of a task.
+    R2(TaskNo),
     /// The task queue.
     R3,
-    /// Message records and places.
-    R4,
-    /// Message queues.
-    R5,
-    /// Status bits against queues.
-    R6,
+    /// The record of a message, or its place.
+    R4(MsgNo),
+    /// The queue of a task.
+    R5(TaskNo),
+    /// The status of a task against its queue.
+    R6(TaskNo),
     /// The running task.
-    R7,
+    R7(TaskNo),
 }
 
 impl Rule {
     /// The paper's number.
     pub fn number(self) -> u8 {
-        self as u8
+        match self {
+            Rule::R1 => 1,
+            Rule::R2(_) => 2,
+            Rule::R3 => 3,
+            Rule::R4(_) => 4,
+            Rule::R5(_) => 5,
+            Rule::R6(_) => 6,
+            Rule::R7(_) => 7,
+        }
+    }
+
+    /// The number of the task or message, 0 where the rule is not one for each.
+    pub fn record(self) -> u16 {
+        match self {
+            Rule::R1 | Rule::R3 => 0,
+            Rule::R4(m) => m.number(),
+            Rule::R2(k) | Rule::R5(k) | Rule::R6(k) | Rule::R7(k) => k.number(),
+        }
     }
 }

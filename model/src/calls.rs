@@ -74,10 +74,7 @@ pub fn step(b: &mut [u8], call: Call) -> Answer {
     let Ok(b) = <&mut Board>::try_from(b) else {
         return Answer::Refused(Refusal::Length);
     };
-    let Ok(running) = examine(b) else {
-        return Answer::Refused(Refusal::BrokenRule);
-    };
-    match effect(b, running, call) {
+    match examine(b).map_err(Refusal::BrokenRule).and_then(|running| effect(b, running, call)) {
         Err(refusal) => Answer::Refused(refusal),
         Ok(value) => dispatch(b, value),
     }

@@ -1,38 +1,43 @@
 //! The rules R1 to R7, and who runs. Every record is read once, and once more where a queue leads to it.
 
 use crate::answer::{Answer, Refusal, Rule};
-use crate::board::{word, Board, MsgNo, Status, TaskNo, BOARD_LEN, MESSAGE_LEN, TASKS, TASK_LEN, TASK_QUEUE};
+use crate::board::{word, Board, MsgNo, Status, TaskNo, MESSAGE_LEN, PLACES_AT, TASKS, TASK_LEN, TASK_QUEUE};
 
-/// Checks a board: refused with 1 or 2, or accepted with the running task.
+/// Checks a board: refused with 1, or with 2 and the broken rule, or accepted with the running task.
 pub fn check(b: &[u8]) -> Answer {
     let Ok(b) = <&Board>::try_from(b) else {
         return Answer::Refused(Refusal::Length);
     };
     match examine(b) {
-        Err(_) => Answer::Refused(Refusal::BrokenRule),
+        Err(rule) => Answer::Refused(Refusal::BrokenRule(rule)),
         Ok(running) => Answer::Accepted { value: 0, running: running.map_or(0, TaskNo::number), delivered: 0 },
     }
 }
 
-/// The first rule that a board breaks, none for a good board. Bytes of another length are no board and break no rule.
-pub fn broken_rule(b: &[u8]) -> Option<Rule> {
-    if b.len() != BOARD_LEN {
-        return None;
-    }
-    examine(b.try_into().ok()?).err()
+/// Who runs on a good board; else the lowest rule that is broken, with the smallest task or message that breaks it.
+pub(crate) fn examine(b: &Board) -> Result<Option<TaskNo>, Rule> {
+    keeps(first_bytes_are_good(b), Rule::R1)?;
+    none(bad_tasks(b), Rule::R2)?;
+    keeps(task_queue_is_good(b), Rule::R3)?;
+    none(bad_messages(b), Rule::R4)?;
+    none(bad_queues(b), Rule::R5)?;
+    none(bad_states(b), Rule::R6)?;
+    let running = running(b);
+    none(running.into_iter().filter(|c| c.status(b).has(Status::MHBS)), Rule::R7)?;
+    Ok(running)
 }
 
-/// Who runs on a good board, or the first rule that is broken.
-pub(crate) fn examine(b: &Board) -> Result<Option<TaskNo>, Rule> {
-    keeps(b[1..4] == [0; 3], Rule::R1)?;
-    keeps(TaskNo::all().all(|k| task_record_is_good(&b[k.at()..k.at() + TASK_LEN])), Rule::R2)?;
-    keeps(task_queue_is_good(b), Rule::R3)?;
-    let queued = message_records(b)?;
-    keeps(present(b).all(|k| message_queue_is_good(b, k, queued[usize::from(k.number())])), Rule::R5)?;
-    keeps(present(b).all(|k| status_fits(k.status(b), word(b, k.queue_slot()) == 0)), Rule::R6)?;
-    let running = running(b);
-    keeps(running.is_none_or(|c| !c.status(b).has(Status::MHBS)), Rule::R7)?;
-    Ok(running)
+fn keeps(good: bool, rule: Rule) -> Result<(), Rule> {
+    if good {
+        Ok(())
+    } else {
+        Err(rule)
+    }
+}
+
+/// A rule for each task or message: those that break it come by number, and the first is named.
+fn none<N>(mut bad: impl Iterator<Item = N>, rule: fn(N) -> Rule) -> Result<(), Rule> {
+    bad.next().map_or(Ok(()), |first| Err(rule(first)))
 }
 
 /// The present tasks, on a board that keeps R2.
@@ -52,15 +57,16 @@ pub(crate) fn running(b: &Board) -> Option<TaskNo> {
     }
 }
 
-fn keeps(good: bool, rule: Rule) -> Result<(), Rule> {
-    if good {
-        Ok(())
-    } else {
-        Err(rule)
-    }
+/// R1.
+pub(crate) fn first_bytes_are_good(b: &Board) -> bool {
+    b[1..4] == [0; 3]
 }
 
-/// R2 for one record.
+/// The tasks that break R2.
+pub(crate) fn bad_tasks(b: &Board) -> impl Iterator<Item = TaskNo> + '_ {
+    TaskNo::all().filter(|k| !task_record_is_good(&b[k.at()..k.at() + TASK_LEN]))
+}
+
 fn task_record_is_good(record: &[u8]) -> bool {
     let (status, prio) = (record[0], record[1]);
     let good_status = status & (Status::TCBB | Status::SPARE) == Status::TCBB;
@@ -70,7 +76,7 @@ fn task_record_is_good(record: &[u8]) -> bool {
 
 /// R3. A walk that meets as many present tasks as there are and then ends has met each once: had it met one twice, it would
 /// go round for ever.
-fn task_queue_is_good(b: &Board) -> bool {
+pub(crate) fn task_queue_is_good(b: &Board) -> bool {
     let mut link = u16::from(b[TASK_QUEUE]);
     let mut least = 0;
     for _ in present(b) {
@@ -85,37 +91,47 @@ fn task_queue_is_good(b: &Board) -> bool {
     link == 0
 }
 
-/// R4: how many messages are queued at each task.
-fn message_records(b: &Board) -> Result<[u8; TASKS as usize + 1], Rule> {
-    let mut queued = [0; TASKS as usize + 1];
-    for m in MsgNo::all() {
-        let place = m.place(b);
-        if place == 0 {
-            keeps(b[m.at()..m.at() + MESSAGE_LEN].iter().all(|&byte| byte == 0), Rule::R4)?;
-            continue;
-        }
-        let is_queued = place >= 64;
-        let owner = TaskNo::new(if is_queued { u16::from(place) - 64 } else { place.into() });
-        let Some(k) = owner.filter(|k| k.is_present(b)) else { return Err(Rule::R4) };
-        keeps(used_record_is_good(b, m, is_queued), Rule::R4)?;
-        queued[usize::from(k.number())] += u8::from(is_queued);
-    }
-    Ok(queued)
+/// The messages that break R4.
+pub(crate) fn bad_messages(b: &Board) -> impl Iterator<Item = MsgNo> + '_ {
+    MsgNo::all().filter(|m| !message_is_good(b, *m))
 }
 
-/// R4 for a message that is not free.
+fn message_is_good(b: &Board, m: MsgNo) -> bool {
+    let place = m.place(b);
+    if place == 0 {
+        return b[m.at()..m.at() + MESSAGE_LEN].iter().all(|&byte| byte == 0);
+    }
+    let is_queued = place >= 64;
+    let owner = TaskNo::new(if is_queued { u16::from(place) - 64 } else { place.into() });
+    owner.is_some_and(|k| k.is_present(b)) && used_record_is_good(b, m, is_queued)
+}
+
+/// The record of a message that is not free.
 fn used_record_is_good(b: &Board, m: MsgNo, is_queued: bool) -> bool {
     let prio = b[m.prio_at()];
     let own = if is_queued { prio & 1 == 1 && prio != 0xFF } else { word(b, m.link_slot()) == 0 };
     own && word(b, m.rptr_at()) <= TASKS && word(b, m.sptr_at()) <= TASKS
 }
 
-/// R5 for task k, at which so many messages are queued; each is met once for the reason given at the task queue. The limit
+/// The tasks that break R5, on a board that keeps R2 and R4: an absent one has neither MPTR nor a message placed there.
+pub(crate) fn bad_queues(b: &Board) -> impl Iterator<Item = TaskNo> + '_ {
+    let placed = placed(b);
+    present(b).filter(move |k| !message_queue_is_good(b, *k, placed[usize::from(k.queued_place())]))
+}
+
+/// How many messages have each place.
+fn placed(b: &Board) -> [u8; 256] {
+    let mut placed = [0; 256];
+    b[PLACES_AT..].iter().for_each(|&place| placed[usize::from(place)] += 1);
+    placed
+}
+
+/// The queue of task k, with so many messages placed in it; each is met once for the reason given at the task queue. The limit
 /// of a walk, 128 links, never shows: there are no more messages.
-fn message_queue_is_good(b: &Board, k: TaskNo, queued: u8) -> bool {
+fn message_queue_is_good(b: &Board, k: TaskNo, placed: u8) -> bool {
     let mut link = word(b, k.queue_slot());
     let mut least = 0;
-    for _ in 0..queued {
+    for _ in 0..placed {
         let Some(m) = MsgNo::new(link) else { return false };
         let prio = b[m.prio_at()];
         if m.place(b) != k.queued_place() || prio < least {
@@ -127,7 +143,11 @@ fn message_queue_is_good(b: &Board, k: TaskNo, queued: u8) -> bool {
     link == 0
 }
 
-/// R6 for one task.
+/// The tasks that break R6, on a board that keeps R5.
+pub(crate) fn bad_states(b: &Board) -> impl Iterator<Item = TaskNo> + '_ {
+    present(b).filter(|k| !status_fits(k.status(b), word(b, k.queue_slot()) == 0))
+}
+
 fn status_fits(s: Status, queue_is_empty: bool) -> bool {
     let wait_fits = !s.has(Status::WAIT) || (queue_is_empty && !s.has(Status::MHBS | Status::IWAT));
     let iwat_fits = !s.has(Status::IWAT) || !s.has(Status::INTQ | Status::MHBS);

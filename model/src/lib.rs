@@ -1,6 +1,7 @@
-//! Document 01 in plain safe Rust: a board of lent bytes, changed in place, and the nineteen calls.
+//! Document 01 in plain safe Rust, as the requests of document 02 change it: a board of lent bytes, changed in place, and the
+//! nineteen calls.
 //!
-//! It was written from the paper alone, without a look at the proved code, and serves to be compared with that code, in
+//! It was written from the papers alone, without a look at the proved code, and serves to be compared with that code, in
 //! answers and in speed. So it is plain: every test of a call comes before its first write, and nothing is copied.
 //!
 //! | Module | Holds |
@@ -29,4 +30,4 @@ pub mod runner;
 
 pub use answer::{Answer, Refusal, Rule};
 pub use calls::{fresh, step, Call};
-pub use check::{broken_rule, check};
+pub use check::check;

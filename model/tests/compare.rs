@@ -1,4 +1,4 @@
-//! The differential run notices a wrong program: each of document 01's slips, and programs that give no answers.
+//! The differential run notices a wrong program: each slip, and programs that give no answers.
 
 use std::path::Path;
 use std::process::{Command, Output};
@@ -48,7 +48,7 @@ fn programs_that_give_no_answers_are_told_apart() {
     for (script, word) in [
         ("exit 3", "0 lines for 2000 cases"),
         ("cat >/dev/null", "0 lines for 2000 cases"),
-        ("\"$0\"; echo 0 0 0 0", "2001 lines for 2000 cases"),
+        ("\"$0\"; echo 0 0 0 0 0 0", "2001 lines for 2000 cases"),
         ("\"$0\"; exit 4", "exit status: 4"),
         ("\"$0\" | sed '1000s/ /,/'", "case 1000: this line is no answer"),
         ("\"$0\" | head -c 9999", "seed 1"),

@@ -1,7 +1,7 @@
 //! The worked boards of document 01, and the order of refusals.
 
 use model::board::{word, Board, MsgNo, Status, TaskNo, BOARD_LEN};
-use model::{broken_rule, check, fresh, step, Answer, Call, Refusal, Rule};
+use model::{check, fresh, step, Answer, Call, Refusal, Rule};
 
 const EMPTY: Board = [0; BOARD_LEN];
 
@@ -175,7 +175,7 @@ fn numbers_and_lengths_beyond_the_board() {
 #[test]
 fn fresh_mends_any_board() {
     let mut b = [0xFF; BOARD_LEN];
-    assert_eq!(check(&b), Answer::Refused(Refusal::BrokenRule));
+    assert_eq!(check(&b), Answer::Refused(Refusal::BrokenRule(Rule::R1)));
     assert_eq!(fresh(&mut b), accepted(0, 0, 0));
     assert_eq!(b, EMPTY);
     assert_eq!(check(&b), accepted(0, 0, 0));
@@ -246,23 +246,83 @@ fn the_lowest_refusal_is_given() {
     refuse(&b, Call::Send { message: 0, receiver: 0 }, 2);
 }
 
+/// The board with these changes, and the rule that is named then.
+fn broken(good: &Board, change: impl FnOnce(&mut Board)) -> Option<Rule> {
+    let mut b = *good;
+    change(&mut b);
+    match check(&b) {
+        Answer::Refused(refusal) => refusal.rule(),
+        Answer::Accepted { .. } => None,
+    }
+}
+
+/// All 32 tasks, and in the queue of each the message of its number; task 1 runs.
+fn with_queues() -> Board {
+    let mut b = with_tasks(&[0x33; 32]);
+    for k in 1..=32 {
+        assert_eq!(claim_and_send(&mut b, 0x15, k), k);
+    }
+    b
+}
+
 #[test]
-fn each_rule_is_named_when_it_is_the_first_broken() {
-    let mut good = with_tasks(&[0x33, 0x35]);
-    let (first, second) = (claim_and_send(&mut good, 0x15, 1), claim_and_send(&mut good, 0x15, 2));
-    assert_eq!(broken_rule(&good), None);
-    let broken = |change: &dyn Fn(&mut Board)| {
-        let mut b = good;
-        change(&mut b);
-        broken_rule(&b)
+fn each_rule_is_named_with_its_record() {
+    let good = with_queues();
+    assert_eq!(broken(&good, |_| ()), None);
+    assert_eq!(broken(&good, |b| b[3] = 1), Some(Rule::R1));
+    assert_eq!(broken(&good, |b| b[0] = 2), Some(Rule::R3));
+    for number in [1, 17, 32] {
+        let k = task(number);
+        assert_eq!(broken(&good, |b| b[k.prio_at()] = 0xFF), Some(Rule::R2(k)));
+        assert_eq!(broken(&good, |b| b[k.queue_slot()] = 0), Some(Rule::R5(k)));
+        assert_eq!(broken(&good, |b| b[k.at()] |= Status::WAIT), Some(Rule::R6(k)));
+        let runs_and_is_due = |b: &mut Board| {
+            (1..number).for_each(|other| b[task(other).at()] |= Status::IWAT);
+            b[k.at()] |= Status::MHBS;
+        };
+        assert_eq!(broken(&good, runs_and_is_due), Some(Rule::R7(k)));
+    }
+    for m in [1, 64, 128].map(message) {
+        assert_eq!(broken(&good, |b| b[m.place_at()] = 64), Some(Rule::R4(m)));
+    }
+}
+
+#[test]
+fn the_lowest_rule_is_named_at_the_smallest_record() {
+    let good = with_queues();
+    let (one, other) = (task(5), task(9));
+    let two_wait = |b: &mut Board| [one, other].iter().for_each(|k| b[k.at()] |= Status::WAIT);
+    assert_eq!(broken(&good, two_wait), Some(Rule::R6(one)));
+    let one_waits_and_other_is_cut_off = |b: &mut Board| {
+        b[one.at()] |= Status::WAIT;
+        b[other.queue_slot()] = 0;
     };
-    let (k, m) = (task(1), message(first));
-    assert_eq!(broken(&|b| b[3] = 1), Some(Rule::R1));
-    assert_eq!(broken(&|b| b[k.prio_at()] = 0xFF), Some(Rule::R2));
-    assert_eq!(broken(&|b| b[0] = 2), Some(Rule::R3));
-    assert_eq!(broken(&|b| b[m.place_at()] = 64), Some(Rule::R4));
-    // Two queues share a tail: the second message is reached from both.
-    assert_eq!(broken(&|b| b[m.link_slot()] = second as u8), Some(Rule::R5));
-    assert_eq!(broken(&|b| b[k.at()] |= Status::WAIT), Some(Rule::R6));
-    assert_eq!(broken(&|b| b[k.at()] |= Status::MHBS), Some(Rule::R7));
+    assert_eq!(broken(&good, one_waits_and_other_is_cut_off), Some(Rule::R5(other)));
+    let one_waits_and_the_running_one_is_due = |b: &mut Board| {
+        b[task(1).at()] |= Status::MHBS;
+        b[one.at()] |= Status::WAIT;
+    };
+    assert_eq!(broken(&good, one_waits_and_the_running_one_is_due), Some(Rule::R6(one)));
+}
+
+#[test]
+fn at_a_shared_tail_the_task_that_strays_is_named() {
+    let good = with_queues();
+    for (k, owner) in [(3, 7), (7, 3), (1, 32), (32, 1)] {
+        let strays = |b: &mut Board| b[message(k).link_slot()] = owner as u8;
+        assert_eq!(broken(&good, strays), Some(Rule::R5(task(k))));
+    }
+}
+
+#[test]
+fn every_call_names_the_rule() {
+    let mut b = with_queues();
+    let k = task(9);
+    b[k.queue_slot()] = 0;
+    for kind in 1..=19 {
+        let call = Call::from_kind(kind, 1, 1, 1, 1, 3).expect("a call");
+        let before = b;
+        assert_eq!(step(&mut b, call), Answer::Refused(Refusal::BrokenRule(Rule::R5(k))));
+        assert_eq!(b, before);
+    }
 }

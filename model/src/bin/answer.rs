@@ -18,8 +18,8 @@ fn main() -> io::Result<()> {
     let mut input = BufReader::new(io::stdin().lock());
     let mut output = BufWriter::new(io::stdout().lock());
     while let Some(case) = Case::read(&mut input)? {
-        let reply = slip.map_or_else(|| case.reply(), |slip| slip.reply(&case));
-        writeln!(output, "{}", reply.line(&case.board))?;
+        let line = slip.map_or_else(|| case.reply().line(&case.board), |slip| slip.line(&case));
+        writeln!(output, "{line}")?;
     }
     output.flush()
 }

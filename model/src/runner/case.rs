@@ -3,7 +3,7 @@
 use std::fmt::Write;
 use std::io::{self, Read};
 
-use crate::{check, fresh, step, Answer, Call};
+use crate::{check, fresh, step, Answer, Call, Rule};
 
 /// The kind that checks a board.
 pub const CHECK: u8 = 0;
@@ -143,13 +143,22 @@ impl Reply {
         }
     }
 
-    /// The line of the protocol: four numbers, and each byte that changed.
+    /// The broken rule, where it is refused for one.
+    pub fn rule(&self) -> Option<Rule> {
+        match self.answer {
+            Some(Answer::Refused(refusal)) => refusal.rule(),
+            _ => None,
+        }
+    }
+
+    /// The line of the protocol: refusal, value, running, delivered, rule and record, and each byte that changed.
     pub fn line(&self, before: &[u8]) -> String {
         let (value, running, delivered) = match self.answer {
             Some(Answer::Accepted { value, running, delivered }) => (value, running, delivered),
             _ => (0, 0, 0),
         };
-        let mut line = format!("{} {value} {running} {delivered}", self.refusal());
+        let (rule, record) = self.rule().map_or((0, 0), |rule| (rule.number(), rule.record()));
+        let mut line = format!("{} {value} {running} {delivered} {rule} {record}", self.refusal());
         for (at, (old, new)) in before.iter().zip(&self.after).enumerate() {
             if old != new {
                 write!(line, " {at}={new}").expect("a string takes any text");

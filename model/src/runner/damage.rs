@@ -1,7 +1,8 @@
 //! Faults put into a good board. Some leave it good, which is wanted too: such boards no history makes.
 
 use super::random::Random;
-use crate::board::{set_word, word, Board, MsgNo, Status, TaskNo, BOARD_LEN, MESSAGE_LEN, TASK_LEN, TASK_QUEUE};
+use crate::board::{set_word, word, Board, MsgNo, Status, TaskNo, BOARD_LEN, MESSAGES, MESSAGE_LEN, TASKS, TASK_LEN, TASK_QUEUE};
+use crate::{step, Call};
 
 /// One to three faults.
 pub fn damage(b: &mut Board, random: &mut Random) {
@@ -11,7 +12,7 @@ pub fn damage(b: &mut Board, random: &mut Random) {
 }
 
 fn fault(b: &mut Board, random: &mut Random) {
-    match random.below(16) {
+    match random.below(20) {
         0 => b[random.below(BOARD_LEN)] = random.byte(),
         1 => b[random.upto(3) as usize] = random.byte(),
         2 | 3 => redirected_link(b, random),
@@ -21,7 +22,8 @@ fn fault(b: &mut Board, random: &mut Random) {
         9..13 => flipped_status(b, random),
         13 => swapped(b, random),
         14 => changed_message_field(b, random),
-        _ => changed_task(b, random),
+        15 => changed_task(b, random),
+        _ => aimed(b, random),
     }
 }
 
@@ -177,4 +179,77 @@ fn edge_priority(b: &mut Board, present: &[TaskNo], random: &mut Random) {
     let k = if low { present.iter().min_by_key(by_prio) } else { present.iter().max_by_key(by_prio) };
     let edge = random.pick(if low { &edges[..3] } else { &edges[3..] });
     k.iter().for_each(|k| b[k.prio_at()] = edge);
+}
+
+/// A fault that breaks one rule at one record, often the first or the last: the other faults meet these too rarely for a short
+/// run.
+fn aimed(b: &mut Board, random: &mut Random) {
+    let (Some(k), Some(m)) = (TaskNo::new(aim(TASKS, random)), MsgNo::new(aim(MESSAGES, random))) else { return };
+    match random.below(5) {
+        0 => bad_task(b, k, random),
+        1 => bad_message(b, m, random),
+        2 => bad_queue(b, k, random),
+        3 => bad_state(b, k, random),
+        _ => due_while_it_runs(b, k),
+    }
+}
+
+fn aim(last: u16, random: &mut Random) -> u16 {
+    let any = random.upto(last);
+    random.pick(&[1, any, last])
+}
+
+/// R2, whether the task is present or not.
+fn bad_task(b: &mut Board, k: TaskNo, random: &mut Random) {
+    match random.below(2) {
+        0 => b[k.at()] |= Status::SPARE,
+        _ => b[k.prio_at()] = random.pick(&[0x01, 0x02, 0xFE, 0xFF]),
+    }
+}
+
+/// R4, wherever the message is.
+fn bad_message(b: &mut Board, m: MsgNo, random: &mut Random) {
+    match random.below(3) {
+        0 => b[m.place_at()] = random.pick(&[33, 64, 97, 128, 255]),
+        1 => set_word(b, m.rptr_at(), TASKS + 1),
+        _ => set_word(b, m.sptr_at(), TASKS + 1),
+    }
+}
+
+/// R5: the queue is cut off, or begins with another message.
+fn bad_queue(b: &mut Board, k: TaskNo, random: &mut Random) {
+    install(b, k);
+    let is_empty = word(b, k.queue_slot()) == 0;
+    let first = if is_empty || random.chance(50) { random.upto(MESSAGES) } else { 0 };
+    set_word(b, k.queue_slot(), first);
+}
+
+/// R6: bits that never go together.
+fn bad_state(b: &mut Board, k: TaskNo, random: &mut Random) {
+    install(b, k);
+    let pairs =
+        [(Status::WAIT, Status::IWAT), (Status::WAIT, Status::MHBS), (Status::IWAT, Status::INTQ), (Status::IWAT, Status::MHBS)];
+    let (one, other) = random.pick(&pairs);
+    k.set_status(b, k.status(b).with(one | other));
+}
+
+/// R7: the task has a message and is due it, and all others wait for an interrupt.
+fn due_while_it_runs(b: &mut Board, k: TaskNo) {
+    install(b, k);
+    for other in TaskNo::all().filter(|other| other.is_present(b)).collect::<Vec<_>>() {
+        other.set_status(b, Status(Status::TCBB | Status::IWAT));
+    }
+    k.set_status(b, Status(Status::TCBB | Status::MHBS));
+    if word(b, k.queue_slot()) != 0 {
+        return;
+    }
+    let Some(m) = MsgNo::all().find(|m| m.place(b) == 0) else { return };
+    b[m.prio_at()] = 1;
+    b[m.place_at()] = k.queued_place();
+    set_word(b, k.queue_slot(), m.number());
+}
+
+/// Installs a task that is absent, on a board that is good so far.
+fn install(b: &mut Board, k: TaskNo) {
+    step(b, Call::Install { task: k.number(), stat: Status::TCBB, prio: 0x33, sptr: 0, name: 0 });
 }

@@ -112,12 +112,13 @@ fn disagreement(number: usize, case: &Case, expected: String, line: &str) -> Fau
     }
 }
 
-/// Whether a line has the protocol's form: four numbers, then place=value.
+/// Whether a line has the protocol's form: six numbers, then place=value.
 fn is_answer(line: &str) -> bool {
     let is_number = |text: &str| text.parse::<u16>().is_ok();
     let is_change = |text: &str| text.split_once('=').is_some_and(|(place, value)| is_number(place) && is_number(value));
     let parts: Vec<_> = line.split(' ').collect();
-    parts.len() >= 4 && parts[..4].iter().all(|part| is_number(part)) && parts[4..].iter().all(|part| is_change(part))
+    let Some((numbers, changes)) = parts.split_at_checked(6) else { return false };
+    numbers.iter().all(|part| is_number(part)) && changes.iter().all(|part| is_change(part))
 }
 
 impl fmt::Display for Trouble {

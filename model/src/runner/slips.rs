@@ -1,11 +1,14 @@
 //! Answers with a known slip in them, made from the model's by changing the reply afterwards. They test the differential run:
 //! it must notice every one.
 
-use super::case::{Case, Reply, CHECK};
-use crate::board::{set_word, word, Board, MsgNo, Status, TaskNo};
-use crate::{check, Answer};
+use std::cmp::Reverse;
 
-/// The slips of document 01 that look right.
+use super::case::{Case, Reply, CHECK};
+use crate::board::{set_word, word, Board, MsgNo, Status, TaskNo, MESSAGES};
+use crate::check::{bad_messages, bad_queues, bad_states, bad_tasks, first_bytes_are_good, running, task_queue_is_good};
+use crate::{check, Answer, Refusal, Rule};
+
+/// The slips of document 01 that look right, and slips in naming a broken rule.
 #[derive(Clone, Copy, Debug, PartialEq, Eq)]
 #[allow(missing_docs)]
 pub enum Slip {
@@ -14,15 +17,25 @@ pub enum Slip {
     CancelLeavesReady,
     ForwardRewritesRptr,
     SharedTailPasses,
+    HighestRule,
+    LargestRecord,
+    StrayedMessagesTask,
+    R7BeforeR6,
+    RecordWithR3,
 }
 
 /// All slips by name.
-pub const SLIPS: [(&str, Slip); 5] = [
+pub const SLIPS: [(&str, Slip); 10] = [
     ("lifo-keeps-bit-0-clear", Slip::LifoKeepsBit0Clear),
     ("message-handed-when-sent", Slip::MessageHandedWhenSent),
     ("cancel-leaves-ready", Slip::CancelLeavesReady),
     ("forward-rewrites-rptr", Slip::ForwardRewritesRptr),
     ("shared-tail-passes", Slip::SharedTailPasses),
+    ("highest-rule", Slip::HighestRule),
+    ("largest-record", Slip::LargestRecord),
+    ("strayed-messages-task", Slip::StrayedMessagesTask),
+    ("r7-before-r6", Slip::R7BeforeR6),
+    ("record-with-r3", Slip::RecordWithR3),
 ];
 
 impl Slip {
@@ -31,18 +44,40 @@ impl Slip {
         SLIPS.iter().find(|(known, _)| *known == name).map(|(_, slip)| *slip)
     }
 
-    /// The model's reply to a case, with the slip.
-    pub fn reply(self, case: &Case) -> Reply {
+    /// The line that answers a case, with the slip.
+    pub fn line(self, case: &Case) -> String {
+        let line = self.reply(case).line(&case.board);
+        // an answer cannot even say this one
+        if self == Slip::RecordWithR3 && line == "2 0 0 0 3 0" {
+            return format!("2 0 0 0 3 {}", case.board[0]);
+        }
+        line
+    }
+
+    fn reply(self, case: &Case) -> Reply {
         let mut reply = case.reply();
         let Ok(before) = <&Board>::try_from(&case.board[..]) else { return reply };
-        if self == Slip::SharedTailPasses {
-            if case.request.kind == CHECK {
-                reply.answer = Some(check(&without_shared_tails(before)));
-            }
+        if self == Slip::SharedTailPasses && case.request.kind == CHECK {
+            reply.answer = Some(check(&without_shared_tails(before)));
+        } else if let Some(rule) = reply.rule() {
+            reply.answer = Some(Answer::Refused(Refusal::BrokenRule(self.misname(before, rule))));
         } else if let Some(Answer::Accepted { .. }) = reply.answer {
             self.spoil(case, before, &mut reply);
         }
         reply
+    }
+
+    /// Another rule or record in place of the right one, where the slip shows.
+    fn misname(self, b: &Board, rule: Rule) -> Rule {
+        let all = || all_broken(b).into_iter();
+        let misnamed = match (self, rule) {
+            (Slip::HighestRule, _) => all().max_by_key(|other| (other.number(), Reverse(other.record()))),
+            (Slip::LargestRecord, _) => all().rev().find(|other| other.number() == rule.number()),
+            (Slip::StrayedMessagesTask, Rule::R5(k)) => strayed_to(b, k).map(Rule::R5),
+            (Slip::R7BeforeR6, Rule::R6(_)) => running(b).filter(|c| c.status(b).has(Status::MHBS)).map(Rule::R7),
+            _ => None,
+        };
+        misnamed.unwrap_or(rule)
     }
 
     /// Changes the board that an accepted call has left.
@@ -76,13 +111,40 @@ fn hand(b: &mut Board, m: MsgNo, r: TaskNo) {
     b[m.place_at()] = r.held_place();
 }
 
+/// Each rule that is broken at each record, by rule and then by record. R6 is judged on boards that keep the others.
+fn all_broken(b: &Board) -> Vec<Rule> {
+    let mut all = Vec::new();
+    all.extend((!first_bytes_are_good(b)).then_some(Rule::R1));
+    all.extend(bad_tasks(b).map(Rule::R2));
+    all.extend((!task_queue_is_good(b)).then_some(Rule::R3));
+    all.extend(bad_messages(b).map(Rule::R4));
+    all.extend(bad_queues(b).map(Rule::R5));
+    if all.is_empty() {
+        all.extend(bad_states(b).map(Rule::R6));
+    }
+    all
+}
+
+/// The task in whose queue the first message that a walk should not meet is placed.
+fn strayed_to(b: &Board, k: TaskNo) -> Option<TaskNo> {
+    let mut slot = k.queue_slot();
+    for _ in 0..MESSAGES {
+        let m = MsgNo::new(word(b, slot))?;
+        if m.place(b) != k.queued_place() {
+            return TaskNo::all().find(|other| other.queued_place() == m.place(b));
+        }
+        slot = m.link_slot();
+    }
+    None
+}
+
 /// The board with every queue cut where it runs into another one's messages.
 fn without_shared_tails(b: &Board) -> Board {
     let mut cut = *b;
     for k in TaskNo::all() {
         let mut slot = k.queue_slot();
         let own = |m: &MsgNo| m.place(b) == k.queued_place();
-        for _ in 0..crate::board::MESSAGES {
+        for _ in 0..MESSAGES {
             let Some(m) = MsgNo::new(word(b, slot)).filter(own) else { break };
             slot = m.link_slot();
         }

@@ -2,12 +2,15 @@
 
 use std::fmt;
 
-use super::case::{Case, Reply, KINDS, NO_CALL};
-use crate::board::{Board, TaskNo, TASKS};
-use crate::broken_rule;
+use super::case::{Case, Reply, FRESH, KINDS, NO_CALL};
+use crate::board::{Board, TaskNo, MESSAGES, TASKS};
+use crate::Rule;
 
 /// The highest refusal that a board can get: number 15 needs a board that passes and yet has MHBS over an empty queue.
 const LAST_REFUSAL: usize = 14;
+
+/// Where a rule can be named. One without records is named at the first of these.
+const SPOTS: [&str; 3] = ["its first record", "a record between", "its last record"];
 
 /// Counts over many cases.
 #[derive(Clone, Debug)]
@@ -16,8 +19,10 @@ pub struct Tally {
     pub cases: usize,
     accepted: [usize; 256],
     refused: [usize; 256],
+    /// Those of the refused where a rule is broken.
+    broken: [usize; 256],
     refusals: [usize; 256],
-    rules: [usize; 8],
+    rules: [[usize; SPOTS.len()]; 8],
     longest_queue: usize,
     most_tasks: usize,
 }
@@ -28,8 +33,9 @@ impl Default for Tally {
             cases: 0,
             accepted: [0; 256],
             refused: [0; 256],
+            broken: [0; 256],
             refusals: [0; 256],
-            rules: [0; 8],
+            rules: Default::default(),
             longest_queue: 0,
             most_tasks: 0,
         }
@@ -40,14 +46,16 @@ impl Tally {
     /// Counts a case and the model's reply to it.
     pub fn count(&mut self, case: &Case, reply: &Reply) {
         self.cases += 1;
-        let refusal = reply.refusal();
+        let (kind, refusal) = (usize::from(case.request.kind), reply.refusal());
         let counts = if refusal == 0 { &mut self.accepted } else { &mut self.refused };
-        counts[usize::from(case.request.kind)] += 1;
+        counts[kind] += 1;
         self.refusals[usize::from(refusal)] += 1;
-        match (refusal, broken_rule(&case.board)) {
-            (2, Some(rule)) => self.rules[usize::from(rule.number())] += 1,
-            (0, None) => self.measure(&reply.after),
-            _ => (),
+        if let Some(rule) = reply.rule() {
+            self.broken[kind] += 1;
+            self.rules[usize::from(rule.number())][spot(rule)] += 1;
+        }
+        if refusal == 0 {
+            self.measure(&reply.after);
         }
     }
 
@@ -67,8 +75,9 @@ impl Tally {
         self.cases += other.cases;
         sum(&mut self.accepted, &other.accepted);
         sum(&mut self.refused, &other.refused);
+        sum(&mut self.broken, &other.broken);
         sum(&mut self.refusals, &other.refusals);
-        sum(&mut self.rules, &other.rules);
+        sum(self.rules.as_flattened_mut(), other.rules.as_flattened());
         self.longest_queue = self.longest_queue.max(other.longest_queue);
         self.most_tasks = self.most_tasks.max(other.most_tasks);
     }
@@ -76,28 +85,52 @@ impl Tally {
     /// What should have been seen and was not.
     pub fn missing(&self) -> Vec<String> {
         let unseen = |counts: &[usize], number: &usize| counts[*number] == 0;
-        let never = KINDS.iter().filter(|(kind, _)| unseen(&self.accepted, &usize::from(*kind)));
-        let calls = never.map(|(_, name)| format!("{name} accepted"));
+        let kinds = || KINDS.iter().map(|(kind, name)| (usize::from(*kind), name));
+        let calls = kinds().filter(|(kind, _)| unseen(&self.accepted, kind)).map(|(_, name)| format!("{name} accepted"));
+        let judges = kinds().filter(|(kind, _)| *kind != usize::from(FRESH));
+        let broken = judges.filter(|(kind, _)| unseen(&self.broken, kind)).map(|(_, name)| format!("{name} of a broken board"));
         let numbers = (1..=LAST_REFUSAL).chain([NO_CALL.into()]);
         let refusals = numbers.filter(|number| unseen(&self.refusals, number)).map(|number| format!("refusal {number}"));
-        let rules = (1..=7).filter(|rule| unseen(&self.rules, rule)).map(|rule| format!("R{rule} broken first"));
-        calls.chain(refusals).chain(rules).collect()
+        calls.chain(broken).chain(refusals).chain((1..=7).flat_map(|rule| self.missing_spots(rule))).collect()
+    }
+
+    fn missing_spots(&self, rule: usize) -> impl Iterator<Item = String> + '_ {
+        let counts = self.rules[rule].iter().take(spots(rule)).zip(SPOTS);
+        counts.filter(|(count, _)| **count == 0).map(move |(_, spot)| format!("R{rule} at {spot}"))
+    }
+}
+
+/// How many of the spots a rule has.
+fn spots(rule: usize) -> usize {
+    match rule {
+        1 | 3 => 1,
+        _ => SPOTS.len(),
+    }
+}
+
+/// Where the rule is named.
+fn spot(rule: Rule) -> usize {
+    let last = if matches!(rule, Rule::R4(_)) { MESSAGES } else { TASKS };
+    match rule.record() {
+        0 | 1 => 0,
+        record if record < last => 1,
+        _ => 2,
     }
 }
 
 impl fmt::Display for Tally {
     fn fmt(&self, f: &mut fmt::Formatter) -> fmt::Result {
-        writeln!(f, "{:<21} {:>9} {:>9}", "call", "accepted", "refused")?;
+        writeln!(f, "{:<21} {:>9} {:>9} {:>9}", "call", "accepted", "refused", "with 2")?;
         for (kind, name) in KINDS {
-            let (accepted, refused) = (self.accepted[usize::from(kind)], self.refused[usize::from(kind)]);
-            writeln!(f, "{kind:>3} {name:<17} {accepted:>9} {refused:>9}")?;
+            let [accepted, refused, broken] = [self.accepted, self.refused, self.broken].map(|counts| counts[usize::from(kind)]);
+            writeln!(f, "{kind:>3} {name:<17} {accepted:>9} {refused:>9} {broken:>9}")?;
         }
-        let seen = |counts: &[usize], numbers: &mut dyn Iterator<Item = usize>, mark: &str| {
-            numbers.map(|number| format!("{mark}{number}: {}", counts[number])).collect::<Vec<_>>().join("  ")
-        };
-        let mut numbers = (1..=LAST_REFUSAL).chain([NO_CALL.into()]);
-        writeln!(f, "refusals  {}", seen(&self.refusals, &mut numbers, ""))?;
-        writeln!(f, "rules     {}", seen(&self.rules, &mut (1..=7), "R"))?;
+        let numbers = (1..=LAST_REFUSAL).chain([NO_CALL.into()]);
+        let refusals: Vec<_> = numbers.map(|number| format!("{number}: {}", self.refusals[number])).collect();
+        writeln!(f, "refusals  {}", refusals.join("  "))?;
+        let at_spots = |rule: usize| self.rules[rule][..spots(rule)].iter().map(usize::to_string).collect::<Vec<_>>().join(" ");
+        let rules: Vec<_> = (1..=7).map(|rule| format!("R{rule}: {}", at_spots(rule))).collect();
+        writeln!(f, "rules     {}  (at the first record, between, at the last)", rules.join("  "))?;
         writeln!(f, "most      {} tasks, {} messages in a queue", self.most_tasks, self.longest_queue)?;
         write!(f, "cases     {}", self.cases)
     }
