@@ -42,7 +42,7 @@ enum {
 enum {
     STATION_ACCEPTED = 0,
     STATION_WRONG_LENGTH = 1, /* the board isn't 1,476 bytes */
-    STATION_RULE_BROKEN = 2, /* such a board cannot exist */
+    STATION_RULE_BROKEN = 2, /* such a board cannot exist; the answer tells the rule and the record */
     STATION_NOBODY_RUNS = 3,
     STATION_NO_SUCH_MESSAGE = 4,
     STATION_NOT_HELD = 5, /* the running task doesn't hold the message */
@@ -60,17 +60,29 @@ enum {
 };
 
 /* ---- an answer: refused with a number, or accepted (0) with a value, the task that runs and the message it was handed.
- * The value is what find, claim and receive give, else 0; 0 is no task and no message. */
+ * The value is what find, claim and receive give, else 0; 0 is no task and no message. With RULE_BROKEN, and else 0, come the
+ * rule, 1 to 7, and the record that breaks it: the message with rule 4, the task with 2, 5, 6 and 7, and 0 with 1 and 3. If
+ * several are broken, it is the lowest rule, and of its records the smallest. */
 typedef struct {
     uint8_t refusal;
     uint16_t value;
     uint16_t running;
     uint16_t delivered;
+    uint8_t rule;
+    uint8_t record;
 } station_answer;
 
 static inline station_answer station_unpack(uint64_t word)
 {
-    station_answer answer = {(uint8_t)word, (uint16_t)(word >> 8), (uint16_t)(word >> 24), (uint16_t)(word >> 40)};
+    station_answer answer = {(uint8_t)word, 0, 0, 0, 0, 0};
+    if (answer.refusal == STATION_ACCEPTED) {
+        answer.value = (uint16_t)(word >> 8);
+        answer.running = (uint16_t)(word >> 24);
+        answer.delivered = (uint16_t)(word >> 40);
+    } else if (answer.refusal == STATION_RULE_BROKEN) {
+        answer.rule = (uint8_t)(word >> 8);
+        answer.record = (uint8_t)(word >> 16);
+    }
     return answer;
 }
 
@@ -99,6 +111,21 @@ static inline const char *station_reason(uint8_t refusal)
     }
 }
 
+/* a broken rule in words; the answer's record is the task or the message */
+static inline const char *station_rule(uint8_t rule)
+{
+    switch (rule) {
+    case 1: return "bytes 1 to 3 are not zero";
+    case 2: return "the record of a task is neither zero nor good";
+    case 3: return "the task queue does not visit every present task once, in order of priority";
+    case 4: return "the record of a message does not go with its place";
+    case 5: return "the queue of a task does not visit exactly the messages placed there, in order of priority";
+    case 6: return "the status of a task does not go with its queue";
+    case 7: return "the running task is still due a message";
+    default: return "no rule has that number";
+    }
+}
+
 /* ---- a PRIO byte: priority 0 (most urgent) to 127, and where among equals: FIFO behind them, LIFO before them. Above 127 is as
  * 127: install refuses that, and a message can only be sent with it. */
 enum { STATION_SENDERS_OWN = 127 }; /* as a message's priority: send puts the sender's own there */
@@ -121,7 +148,8 @@ static inline station_answer station_make_fresh(uint8_t *board, size_t len)
     return station_unpack(station_fresh(board, len));
 }
 
-/* Can this board exist? Tells who runs, and writes nothing. Refused: WRONG_LENGTH, RULE_BROKEN. */
+/* Can this board exist? Tells who runs, or which rule is broken and where; writes nothing. Refused: WRONG_LENGTH,
+ * RULE_BROKEN. */
 static inline station_answer station_look(const uint8_t *board, size_t len)
 {
     return station_unpack(station_check(board, len));

@@ -25,7 +25,7 @@ static struct {
     int confirm; /* the sender waits to hear that it is in the log */
 } said[STATION_MESSAGES + 1];
 
-/* ---- every answer goes through one of these two */
+/* ---- every call's answer goes through one of these two */
 
 /* A call that may be refused: whether it was accepted. A refusal has changed nothing, so the same task runs. */
 static int accepted(station_answer answer)
@@ -135,6 +135,19 @@ static void turn(uint16_t task)
 
 /* ---- the station */
 
+/* A board that comes from elsewhere is looked at before it is used. One that cannot exist is told with the rule that it breaks and
+ * the record: with rule 4 a message, else a task, or 0 where the rule is not one for each. */
+static void look_at(const uint8_t *bytes, size_t len)
+{
+    station_answer answer = station_look(bytes, len);
+    if (answer.refusal == STATION_ACCEPTED)
+        printf("--  the board is good\n");
+    else if (answer.refusal == STATION_RULE_BROKEN)
+        printf("--  the board breaks rule %d at record %d: %s\n", answer.rule, answer.record, station_rule(answer.rule));
+    else
+        printf("--  no board: %s (%d)\n", station_reason(answer.refusal), answer.refusal);
+}
+
 static void install(uint16_t k, uint8_t priority, uint16_t name)
 {
     sure(station_install(board, sizeof board, k, STATION_TCBB, station_fifo(priority), 0, name));
@@ -143,6 +156,7 @@ static void install(uint16_t k, uint8_t priority, uint16_t name)
 int main(void)
 {
     enum { SURGE = 5 }; /* the gauge interrupts before the fifth turn, while S2 has sent one reading of two */
+    enum { STAT_OF_LG = 4 + 10 * (LG - 1) }; /* its byte on the board */
     sure(station_make_fresh(board, sizeof board));
     install(S1, USUAL, NAME('S', '1'));
     install(S2, USUAL, NAME('S', '2'));
@@ -155,7 +169,9 @@ int main(void)
         }
         turn(now.running);
     }
-    sure(station_look(board, sizeof board));
     printf("--  nobody runs: all wait\n");
+    look_at(board, sizeof board);
+    board[STAT_OF_LG] |= STATION_MHBS; /* as a fault of the memory may do: LG waits, so it cannot be due a message */
+    look_at(board, sizeof board);
     return EXIT_SUCCESS;
 }

@@ -1,6 +1,7 @@
 /* The cases of tests/cases through include/station.h and the static library, every call by its own wrapper, with guard bytes around the
  * board. It reads and writes what the program run_cases does: a case is the length as a word, a call of nine bytes (kind, three words,
- * STAT, PRIO; kind 0 checks the board, kind 254 makes it fresh) and the board; an answer is a line. */
+ * STAT, PRIO; kind 0 checks the board, kind 254 makes it fresh) and the board; an answer is a line: refusal, value, running, delivered,
+ * rule, record, and each byte that has changed. */
 #include <stdio.h>
 #include <string.h>
 
@@ -62,7 +63,7 @@ int main(void)
         memcpy(board, before, n);
         memset(board + n, MARK, GUARD);
         station_answer a = answer_to(head, board, n);
-        printf("%d %d %d %d", a.refusal, a.value, a.running, a.delivered);
+        printf("%d %d %d %d %d %d", a.refusal, a.value, a.running, a.delivered, a.rule, a.record);
         for (size_t i = 0; i < n; i++)
             if (board[i] != before[i]) printf(" %d=%d", (int)i, board[i]);
         printf(guarded(n) ? "\n" : " and wrote outside the board\n");

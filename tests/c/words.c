@@ -1,5 +1,6 @@
-/* What include/station.h says of its arguments. A board of length 0 may have any pointer, NULL too, and every function refuses it. A
- * priority above 127 is as 127: install refuses it, and a message goes with its sender's own or not at all. */
+/* What include/station.h says of its arguments and answers. A board of length 0 may have any pointer, NULL too, and every function refuses
+ * it. A priority above 127 is as 127: install refuses it, and a message goes with its sender's own or not at all. A broken rule comes with
+ * its record, and every rule has words of its own. */
 #include <stdio.h>
 #include <string.h>
 
@@ -46,11 +47,52 @@ static void priority_above_127(void)
          "a message with a priority above 127 is not sent with its sender's own");
 }
 
+static int is(station_answer a, station_answer b)
+{
+    return a.refusal == b.refusal && a.value == b.value && a.running == b.running && a.delivered == b.delivered && a.rule == b.rule &&
+           a.record == b.record;
+}
+
+static station_answer broken(uint8_t rule, uint8_t record)
+{
+    return (station_answer){STATION_RULE_BROKEN, 0, 0, 0, rule, record};
+}
+
+static void packed_answers(void)
+{
+    hold(is(station_unpack(0x0005060304010200), (station_answer){STATION_ACCEPTED, 0x0102, 0x0304, 0x0506, 0, 0}),
+         "an accepted answer is not unpacked");
+    hold(is(station_unpack(0x800402), broken(4, 128)), "a broken rule is not unpacked with its record");
+    hold(is(station_unpack(5), (station_answer){STATION_NOT_HELD, 0, 0, 0, 0, 0}), "another refusal is not unpacked");
+}
+
+static void broken_rules(void)
+{
+    memset(board, 0, sizeof board);
+    board[4 + 10 * (STATION_TASKS - 1)] = STATION_WAIT;
+    hold(is(station_look(board, sizeof board), broken(2, STATION_TASKS)), "the check does not name the task");
+    hold(is(station_claim(board, sizeof board), broken(2, STATION_TASKS)), "a call does not name the task");
+    board[3] = 1;
+    hold(is(station_look(board, sizeof board), broken(1, 0)), "the check does not name the lowest rule");
+    hold(station_make_fresh(board, sizeof board).rule == 0, "making a board fresh names a rule");
+}
+
+static void words_of_rules(void)
+{
+    for (uint8_t rule = 1; rule <= 7; rule++)
+        for (uint8_t other = 0; other < rule; other++)
+            hold(strcmp(station_rule(rule), station_rule(other)) != 0, "two rules have the same words");
+    hold(strcmp(station_rule(0), station_rule(8)) == 0, "a number that is no rule has words of its own");
+}
+
 int main(void)
 {
     no_bytes();
     prio_bytes();
     priority_above_127();
-    if (!faults) puts("station.h: what it says of its arguments holds");
+    packed_answers();
+    broken_rules();
+    words_of_rules();
+    if (!faults) puts("station.h: what it says of its arguments and answers holds");
     return faults != 0;
 }

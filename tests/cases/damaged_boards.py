@@ -1,13 +1,15 @@
 #!/usr/bin/env python3
-"""Makes the damaged boards of the gate: every rule R1 to R7 broken alone in each way it can be, then boards that break several.
+"""Makes the damaged boards of the gate: every rule R1 to R7 broken alone in each way it can be, at the first, a middle and the last record,
+then boards that break several.
 
-Written from document 01 alone, with its own reading of the rules, so that the proved check is compared with something else.
-usage: damaged_boards.py CASES ANSWERS   (a case: length word, call of 9 bytes, board; an answer: a line)"""
+Written from documents 01 and 02 (Ask 1) alone, with its own reading of the rules, so that the proved check is compared with something else.
+usage: damaged_boards.py CASES ANSWERS   (a case: length word, call of 9 bytes, board; an answer: a line of refusal, value, running,
+delivered, rule, record and each byte that changed)"""
 import random
 import sys
 
 TASKS, MESSAGES = 32, 128
-CHECK, FRESH, NO_CALLS = 0, 254, (20, 21, 22, 64, 128, 253, 255)
+CHECK, CALLS, FRESH, NO_CALLS = 0, range(1, 20), 254, (20, 21, 22, 64, 128, 253, 255)
 WAIT, IWAT, BIT5, INTQ, DEBUG, MROB, MHBS, TCBB = 128, 64, 32, 16, 8, 4, 2, 1
 
 
@@ -44,47 +46,53 @@ def walk(b, x, link, members, number):
 
 
 def broken(b):
-    """The rules that the board breaks, as a set; R6 and R7 are judged where R1 to R5 hold."""
+    """What the board breaks, as (rule, record), record 0 for R1 and R3; R6 and R7 are judged where R1 to R5 hold."""
     out = set()
     stat = {k: b[task(k)] for k in range(1, TASKS + 1)}
     there = {k for k in stat if any(b[task(k):task(k) + 10])}
     if any(b[1:4]):
-        out.add(1)
+        out.add((1, 0))
     for k in there:
         if not stat[k] & TCBB or stat[k] & BIT5 or b[task(k) + 1] % 2 == 0 or not 3 <= b[task(k) + 1] <= 0xFD:
-            out.add(2)
+            out.add((2, k))
     order = walk(b, b[0], lambda k: task(k) + 2, there, lambda k: b[task(k) + 1] >> 1)
     if order is None:
-        out.add(3)
+        out.add((3, 0))
     placed = {k: set() for k in stat}
     for m in range(1, MESSAGES + 1):
         r, p = b[message(m):message(m) + 8], b[place(m)]
         if p == 0:
             if any(r):
-                out.add(4)
+                out.add((4, m))
             continue
         holder = p if p <= TASKS else p - 64
         if holder not in there or word(r, 4) > TASKS or word(r, 6) > TASKS:
-            out.add(4)
+            out.add((4, m))
         if p <= TASKS and word(r, 2):
-            out.add(4)
+            out.add((4, m))
         if p > 64:
             if r[1] % 2 == 0 or r[1] == 0xFF:
-                out.add(4)
+                out.add((4, m))
             if holder in placed:
                 placed[holder].add(m)
     for k in stat:
         if walk(b, word(b, task(k) + 4), lambda m: message(m) + 2, placed[k], lambda m: b[message(m) + 1] >> 1) is None:
-            out.add(5)
+            out.add((5, k))
     if out:
         return out
     for k in there:
         s, empty = stat[k], not placed[k]
         if (s & WAIT and s & IWAT) or (s & WAIT and (not empty or s & MHBS)) or (s & IWAT and s & (INTQ | MHBS)) or (s & MHBS and empty):
-            out.add(6)
-    if not out and running(b, order) and stat[running(b, order)] & MHBS:
-        out.add(7)
+            out.add((6, k))
+    first = running(b, order)
+    if first and stat[first] & MHBS:
+        out.add((7, first))
     return out
+
+
+def named(b):
+    """The rule that is told with 2, and the record: the lowest, then the smallest; zeros where the board breaks none."""
+    return min(broken(b), default=(0, 0))
 
 
 def running(b, order):
@@ -99,23 +107,33 @@ def queue(b, k, numbers, prios):
         b[place(m)] = 64 + k
 
 
-def sound():
-    """Five tasks in the order 5, 2, 7, 32, 9: one runs with a queue, one waits, one is parked with a queue, one is due a message."""
+def same(number):
+    return number
+
+
+def swapped(one, other):
+    return lambda number: {one: other, other: one}.get(number, number)
+
+
+def sound(t=same, m=same):
+    """Five tasks in the order 5, 2, 7, 32, 9: one runs with a queue, one waits, one is parked with a queue, one is due a message. Functions
+    t and m give the tasks and messages other numbers."""
     b = bytearray(1476)
     order = [(5, TCBB | DEBUG, 3), (2, TCBB | WAIT | INTQ, 21), (7, TCBB | IWAT | MROB, 21), (32, TCBB | MHBS, 0x33), (9, TCBB | INTQ, 0xFD)]
-    b[0] = 5
+    b[0] = t(5)
     for i, (k, s, p) in enumerate(order):
-        b[task(k)], b[task(k) + 1] = s, p
-        put(b, task(k) + 2, order[i + 1][0] if i + 1 < len(order) else 0)
-        put(b, task(k) + 6, 0xBEEF)
-        put(b, task(k) + 8, 0x4142)
-    queue(b, 5, [3, 1, 128], [1, 1, 0xFD])
-    queue(b, 7, [64, 2], [9, 11])
-    queue(b, 32, [100], [0x15])
-    for m, k, prio in ((10, 2, 0xFF), (11, 2, 0xFE), (127, 5, 0)):
-        b[place(m)], b[message(m) + 1] = k, prio
-        put(b, message(m) + 4, 32)
-        put(b, message(m) + 6, 31)
+        at = task(t(k))
+        b[at], b[at + 1] = s, p
+        put(b, at + 2, t(order[i + 1][0]) if i + 1 < len(order) else 0)
+        put(b, at + 6, 0xBEEF)
+        put(b, at + 8, 0x4142)
+    queue(b, t(5), [m(3), m(1), m(128)], [1, 1, 0xFD])
+    queue(b, t(7), [m(64), m(2)], [9, 11])
+    queue(b, t(32), [m(100)], [0x15])
+    for n, k, prio in ((m(10), 2, 0xFF), (m(11), 2, 0xFE), (m(127), 5, 0)):
+        b[place(n)], b[message(n) + 1] = t(k), prio
+        put(b, message(n) + 4, 32)
+        put(b, message(n) + 6, 31)
     return b
 
 
@@ -138,81 +156,123 @@ def one_queue():
     return b
 
 
-def damages():
-    """What breaks each rule of the board sound(), as (the lowest rule broken, [(offset, byte) ..])."""
-    w = lambda i, v: [(i, v % 256), (i + 1, v // 256)]
+def changed(b, changes):
+    for i, v in changes:
+        b[i] = v
+    return b
+
+
+def to_word(i, w):
+    """The changes that write a word."""
+    return [(i, w % 256), (i + 1, w // 256)]
+
+
+def damages_of_no_record():
+    """What breaks R1 or R3 of the board sound() alone, as (rule, 0, [(offset, byte) ..])."""
     for i in (1, 2, 3):
         for v in (1, 0x80, 0xFF):
-            yield 1, [(i, v)]
-    for i in range(10):                                     # an absent record that isn't zero
-        yield 2, [(task(20) + i, 2 if i == 0 else 1)]
-    for k, s in ((5, TCBB | DEBUG), (9, TCBB | INTQ)):
-        yield 2, [(task(k), s | BIT5)]
-    yield 2, [(task(9), INTQ)]                              # TCBB clear
-    for p in (0x01, 0xFF, 0xFC, 0x02, 0x00):
-        yield 2, [(task(9) + 1, p)]
+            yield 1, 0, [(i, v)]
     for v in (0, 1, 2, 33, 255):                            # byte 0: none, absent, past the first, beyond the board
-        yield 3, [(0, v)]
-    for v in (0, 1, 5, 2, 7, 9, 33, 0x0107, 0x8000):        # LINK of task 2
-        if v != 7:
-            yield 3, w(task(2) + 2, v)
+        yield 3, 0, [(0, v)]
+    for v in (0, 1, 5, 2, 9, 33, 0x0107, 0x8000):           # LINK of task 2
+        yield 3, 0, to_word(task(2) + 2, v)
     for v in (5, 9, 1, 33, 0x0100):                         # LINK of the last task
-        yield 3, w(task(9) + 2, v)
-    yield 3, [(task(5) + 1, 23)]                            # numbers fall behind the first
-    yield 3, [(task(9) + 1, 0x31)]                          # .. at the last link
+        yield 3, 0, to_word(task(9) + 2, v)
+    yield 3, 0, [(task(5) + 1, 23)]                         # numbers fall behind the first
+    yield 3, 0, [(task(9) + 1, 0x31)]                       # .. at the last link
+
+
+def damages(t=same, m=same):
+    """What breaks each other rule of the board sound(t, m), as (the lowest rule broken, its record, [(offset, byte) ..])."""
+    absent, runner, waiter, parked, idle = (t(k) for k in (20, 5, 2, 7, 9))
+    free, held, first, last, kept = (m(n) for n in (50, 10, 3, 128, 127))
+    for i in range(10):                                     # an absent record that isn't zero
+        yield 2, absent, [(task(absent) + i, 2 if i == 0 else 1)]
+    for k, s in ((runner, TCBB | DEBUG), (idle, TCBB | INTQ)):
+        yield 2, k, [(task(k), s | BIT5)]
+    yield 2, idle, [(task(idle), INTQ)]                     # TCBB clear
+    for p in (0x01, 0xFF, 0xFC, 0x02, 0x00):
+        yield 2, idle, [(task(idle) + 1, p)]
     for i in range(8):                                      # a free message that isn't zero
-        yield 4, [(message(50) + i, 1)]
-    for m in (10, 3):                                       # RPTR and SPTR beyond the tasks
+        yield 4, free, [(message(free) + i, 1)]
+    for n in (held, first):                                 # RPTR and SPTR beyond the tasks
         for i in (4, 6):
             for v in (33, 0x0100, 0xFFFF):
-                yield 4, w(message(m) + i, v)
+                yield 4, n, to_word(message(n) + i, v)
     for v in (1, 11, 129, 0x0100):                          # a held message with a LINK
-        yield 4, w(message(10) + 2, v)
+        yield 4, held, to_word(message(held) + 2, v)
     for p in (0xFF, 0xFC, 0x00):                            # a queued message's PRIO
-        yield 4, [(message(128) + 1, p)]
+        yield 4, last, [(message(last) + 1, p)]
     for p in (1, 31, 33, 48, 64, 97, 120, 127, 128, 192, 255):  # places that name no present task
-        yield 4, [(place(127), p)]
+        yield 4, kept, [(place(kept), p)]
     for v in (0, 1, 128, 2, 10, 50, 129, 0x0103, 0x8000):   # MPTR of the running task
-        yield 5, w(task(5) + 4, v)
-    yield 5, w(task(2) + 4, 10)                             # a queue that has only a held message
-    yield 5, w(task(9) + 4, 100)                            # .. another task's
+        yield 5, runner, to_word(task(runner) + 4, v)
+    yield 5, waiter, to_word(task(waiter) + 4, 10)          # a queue that has only a held message
+    yield 5, idle, to_word(task(idle) + 4, 100)             # .. another task's
     for v in (3, 1, 0, 50, 10, 64, 129, 0x0180):            # LINK in the middle: a cycle, a miss, a stranger
-        yield 5, w(message(1) + 2, v)
+        yield 5, runner, to_word(message(1) + 2, v)
     for v in (3, 128, 2, 100, 129, 0x0100):                 # LINK at the end; 2 and 100 share a tail
-        yield 5, w(message(128) + 2, v)
-    yield 5, [(message(3) + 1, 3)]                          # numbers fall behind the first
-    yield 5, [(message(2) + 1, 7)]                          # .. at the last link
-    yield 5, [(place(1), 64 + 7)]                           # visited by one, placed at another
-    yield 5, [(place(1), 5)] + w(message(1) + 2, 0)         # visited and held
-    yield 6, [(task(2), TCBB | WAIT | IWAT)]
-    yield 6, [(task(7), TCBB | WAIT)]                       # WAIT with a queue
-    yield 6, [(task(2), TCBB | WAIT | MHBS)]
-    yield 6, [(task(7), TCBB | IWAT | INTQ)]
-    yield 6, [(task(7), TCBB | IWAT | MHBS)]
-    yield 6, [(task(9), TCBB | MHBS)]                       # MHBS with an empty queue
-    yield 7, [(task(5), TCBB | MHBS)]
+        yield 5, runner, to_word(message(128) + 2, v)
+    yield 5, runner, [(message(3) + 1, 3)]                  # numbers fall behind the first
+    yield 5, parked, [(message(2) + 1, 7)]                  # .. at the last link
+    yield 5, min(runner, parked), [(place(1), 64 + parked)]     # visited by one, placed at another
+    yield 5, runner, [(place(1), runner)] + to_word(message(1) + 2, 0)  # visited and held
+    yield 6, waiter, [(task(waiter), TCBB | WAIT | IWAT)]
+    yield 6, parked, [(task(parked), TCBB | WAIT)]          # WAIT with a queue
+    yield 6, waiter, [(task(waiter), TCBB | WAIT | MHBS)]
+    yield 6, parked, [(task(parked), TCBB | IWAT | INTQ)]
+    yield 6, parked, [(task(parked), TCBB | IWAT | MHBS)]
+    yield 6, idle, [(task(idle), TCBB | MHBS)]              # MHBS with an empty queue
+    yield 7, runner, [(task(runner), TCBB | MHBS)]
+
+
+def spots(rule):
+    """The first, a middle and the last record of a rule that has any."""
+    last = MESSAGES if rule == 4 else TASKS
+    return 1, last // 2, last
+
+
+def each_at_its_spots():
+    """Each damage to a record, with the numbers on the board so changed about that it comes to the first, a middle and the last one."""
+    for i, (rule, record, _) in enumerate(damages()):
+        for spot in spots(rule):
+            swap = swapped(record, spot)
+            t, m = (same, swap) if rule == 4 else (swap, same)
+            _, there, changes = list(damages(t, m))[i]
+            yield changed(sound(t, m), changes), (rule, there)
+
+
+def of_the_full_board():
+    """Boards with every task and message, broken at two tasks or one: the smaller is named, or the one that is wrong."""
+    for k, other in ((1, 2), (2, 1), (1, 32), (32, 1), (16, 17), (17, 16), (31, 32), (32, 31)):
+        strays = to_word(message(4 * k) + 2, 4 * other)     # the tail of the other is shared: its own walk is right
+        yield changed(full(), strays), (5, k)
+        cut = [change for j in (k, other) for change in to_word(message(4 * j - 1) + 2, 0)]
+        yield changed(full(), cut), (5, min(k, other))
+        yield changed(full(), [(task(k), TCBB | WAIT), (task(other), TCBB | MHBS | IWAT)]), (6, min(k, other))
+        waits = [(task(j), TCBB | IWAT) for j in range(1, k)]
+        yield changed(full(), waits + [(task(k), TCBB | MHBS)]), (7, k)
+        yield changed(full(), [(task(1), TCBB | MHBS), (task(k), TCBB | WAIT)]), (6, k)  # R7 too where k isn't 1
 
 
 def cases():
-    """Every board of the gate, with the lowest rule it is to break, 0 for none and None where any may be broken."""
-    yield bytearray(1476), 0
+    """Every board of the gate, with the rule and the record that it is to break, zeros for none, and None where any may be broken."""
+    yield bytearray(1476), (0, 0)
     for base in (sound(), full(), one_queue()):
-        yield base, 0
-    ways = list(damages())
-    for rule, damage in ways:
-        b = sound()
-        for i, v in damage:
-            b[i] = v
-        yield b, rule
+        yield base, (0, 0)
+    ways = list(damages_of_no_record()) + list(damages())
+    for rule, record, changes in ways:
+        yield changed(sound(), changes), (rule, record)
+    yield from each_at_its_spots()
+    yield from of_the_full_board()
     long_walk = one_queue()                                 # 129 links: the last one turns back to the first
     put(long_walk, message(1) + 2, 128)
-    yield long_walk, 5
+    yield long_walk, (5, 32)
     rng = random.Random(1980)
     for _ in range(300):
         b = sound()
-        for rule, damage in rng.sample(ways, rng.choice((2, 2, 3))):
-            for i, v in damage:
-                b[i] = v
+        for _, _, changes in rng.sample(ways, rng.choice((2, 2, 3))):
+            changed(b, changes)
         yield b, None
     for _ in range(300):                                    # any byte of a sound board changed
         b = rng.choice((sound, full, one_queue))()
@@ -229,26 +289,29 @@ def main(cases_file, answers_file):
         def emit(board, kind, answer):
             out.write(bytes((len(board) % 256, len(board) // 256, kind)) + bytes(8) + bytes(board))
             said.write(answer + "\n")
-        for b, rule in cases():
+        for b, wanted in cases():
             found = broken(b)
-            if rule is not None:
-                assert min(found, default=0) == rule, (rule, found)
+            if wanted is not None:
+                assert named(b) == wanted, (wanted, found)
                 alone.update(found if len(found) < 2 else ())
             if found:
-                emit(b, CHECK, "2 0 0 0")
+                emit(b, CHECK, "2 0 0 0 %d %d" % named(b))
             else:
                 order = walk(b, b[0], lambda k: task(k) + 2, {k for k in range(1, 33) if b[task(k)]}, lambda k: b[task(k) + 1] >> 1)
-                emit(b, CHECK, "0 0 %d 0" % running(b, order))
+                emit(b, CHECK, "0 0 %d 0 0 0" % running(b, order))
+        for rule, record, changes in {way[0]: way for way in [*damages_of_no_record(), *damages()]}.values():
+            for kind in CALLS:                              # every call says what the check does
+                emit(changed(sound(), changes), kind, "2 0 0 0 %d %d" % (rule, record))
         for n in (0, 1, 4, 1475, 1477, 2854, 4000):         # wrong lengths
-            emit(bytes(n), CHECK, "1 0 0 0")
-            emit(bytes([7]) * n, FRESH, "1 0 0 0")
+            emit(bytes(n), CHECK, "1 0 0 0 0 0")
+            emit(bytes([7]) * n, FRESH, "1 0 0 0 0 0")
         mended = bytes([0xA5]) * 1476                       # fresh mends any board
-        emit(mended, FRESH, "0 0 0 0" + "".join(" %d=0" % i for i in range(1476)))
-        emit(bytes(1476), FRESH, "0 0 0 0")
+        emit(mended, FRESH, "0 0 0 0 0 0" + "".join(" %d=0" % i for i in range(1476)))
+        emit(bytes(1476), FRESH, "0 0 0 0 0 0")
         for kind in NO_CALLS:                               # no call, before the board is looked at
             for b in (sound(), mended, bytes(1475)):
-                emit(b, kind, "255 0 0 0")
-    assert alone == set(range(1, 8))
+                emit(b, kind, "255 0 0 0 0 0")
+    assert alone >= {(1, 0), (3, 0)} | {(rule, spot) for rule in (2, 4, 5, 6, 7) for spot in spots(rule)}
 
 
 main(*sys.argv[1:])

@@ -1,7 +1,8 @@
 #!/usr/bin/env python3
 """Makes the cases of the worked boards in document 01 that carry no star, with the answers that the document gives: message 0 and 129,
 boards of 1,475 and 1,477 bytes, task 33. For every call that takes such an argument, from a lone task 1 that holds message 1.
-usage: worked_boards.py CASES ANSWERS   (a case: length word, call of 9 bytes, board; an answer: a line)"""
+usage: worked_boards.py CASES ANSWERS   (a case: length word, call of 9 bytes, board; an answer: a line of refusal, value, running,
+delivered, rule and record)"""
 import struct
 import sys
 
@@ -37,7 +38,7 @@ def main(cases_file, answers_file):
     with open(cases_file, "wb") as out, open(answers_file, "w") as said:
         for board, kind, words, number in cases():
             out.write(struct.pack("<HBHHHBB", len(board), kind, *words, 0x01, 0x33) + board)
-            said.write(f"{number} 0 0 0\n")
+            said.write(f"{number} 0 0 0 0 0\n")
 
 
 main(*sys.argv[1:])
