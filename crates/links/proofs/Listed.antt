@@ -32,10 +32,10 @@ module _ (next number : ℕ → ℕ) (n x : ℕ) (members : List ℕ) where
       and-true (ends next n x && rearranged (walk next n x) members) (rising number 0 (walk next n x))
       (and-true (ends next n x) (rearranged (walk next n x) members) e h) g
 
-  -- where it fails the walk does not end, visits another, misses a member, or a priority number falls: whatever follows from each of
-  -- these then holds
-  pub lists-fails : (F : Type 0) → Once members → (ends next n x ≡ false → F) → ((y : ℕ) → In y (walk next n x) → Out y members → F)
-      → ((y : ℕ) → In y members → Out y (walk next n x) → F) → (rising number 0 (walk next n x) ≡ false → F)
+  -- where it fails the walk does not end, meets another, misses a member, or a priority number falls: F, if each of these gives F
+  pub lists-fails : (F : Type 0) → Once members → (ends next n x ≡ false → F)
+      → ((y : ℕ) → In y (walk next n x) → Out y members → F) → ((y : ℕ) → In y members → Out y (walk next n x) → F)
+      → (rising number 0 (walk next n x) ≡ false → F)
       → lists next number n x members ≡ false → F
   lists-fails F d noEnd meets misses falls e =
       step (ends next n x) refl (rearranged (walk next n x) members) refl (rising number 0 (walk next n x)) refl

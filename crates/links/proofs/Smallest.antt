@@ -50,7 +50,9 @@ module _ (f : ℕ → Bool) where
       go true p ih =
           let s : n + 1 ≡ suc n = omega arith in
           record { before = n; below = omega arith; pass = p; fails = ap f s ∙ sym (ap (λ (t : Bool). t && f (suc n)) p) ∙ e }
-      go false p ih = let r = ih p in record { before = r .before; below = omega (arith, r .below); pass = r .pass; fails = r .fails }
+      go false p ih =
+          let r = ih p in
+          record { before = r .before; below = omega (arith, r .below); pass = r .pass; fails = r .fails }
 
   -- then the smallest is one of the numbers, fails, and each before it passes
   pub smallest-one : (n : ℕ) → each f n ≡ false → (1 ≤ smallestFailing f n) × (smallestFailing f n ≤ n)

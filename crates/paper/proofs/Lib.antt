@@ -1,4 +1,5 @@
 pub mod Slips
+mod NamedCases
 mod Served
 pub mod Rows
 pub mod Theorems

@@ -130,8 +130,8 @@ module _ (z : Size) (b : Board) where
         where
           step : Dec (ruleNumber r ≡ ruleNumber s) → (t : Bool) → leb (ruleNumber s) (ruleNumber r - 1) ≡ t → NoLater r s
           step (yes i) t k =
-              let at = subst (λ (n : ℕ). BrokenAt z b (ruleAt n (recordNumber s))) (sym i) (subst (BrokenAt z b) (sym (at-rule s)) g) in
-              inr (i, least (recordNumber s) at)
+              let here : BrokenAt z b (ruleAt (ruleNumber s) (recordNumber s)) = subst (BrokenAt z b) (sym (at-rule s)) g in
+              inr (i, least (recordNumber s) (subst (λ (n : ℕ). BrokenAt z b (ruleAt n (recordNumber s))) (sym i) here))
           step (no i) true k =
               let holds = each-at rule (ruleNumber r - 1) h (ruleNumber s) (rule-number s .0) (leb-true _ _ k) in
               absurd (true≢false (sym holds ∙ broken-fails s g))
@@ -182,7 +182,8 @@ module _ (z : Size) (b : Board) (k : ℕ) where
   faulty : rule5At z b k ≡ false → Fault z b k
   faulty =
       lists-fails (nextMessage b) (messageNumber b) (z .messages) (task b k .mptr) own (Fault z b k)
-      (which-once (isQueuedAt k) 1 (b .places)) NoEnd (λ m i o. Meets m i (not-queued m o)) (λ m i. Misses m (own-queued m .0 i)) Falls
+      (which-once (isQueuedAt k) 1 (b .places)) NoEnd (λ m i o. Meets m i (not-queued m o))
+      (λ m i. Misses m (own-queued m .0 i)) Falls
 
   -- where it holds, its parts do, and there is none
   parts : rule5At z b k ≡ true
@@ -190,10 +191,13 @@ module _ (z : Size) (b : Board) (k : ℕ) where
       × (rising (messageNumber b) 0 (queue z b k) ≡ true)
   parts = lists-parts (nextMessage b) (messageNumber b) (z .messages) (task b k .mptr) own
 
+  visits-own : rule5At z b k ≡ true → (m : ℕ) → In m (queue z b k) ↔ In m own
+  visits-own e = rearranged-in (queue z b k) own (parts e .1)
+
   faultless : rule5At z b k ≡ true → Fault z b k → ⊥
   faultless e (NoEnd h) = true≢false (sym (parts e .0) ∙ h)
-  faultless e (Meets m i h) = true≢false (sym (own-queued m .0 (rearranged-in (queue z b k) own (parts e .1) m .0 i)) ∙ h)
-  faultless e (Misses m h o) = out-not-in m (queue z b k) o (rearranged-in (queue z b k) own (parts e .1) m .1 (own-queued m .1 h))
+  faultless e (Meets m i h) = true≢false (sym (own-queued m .0 (visits-own e m .0 i)) ∙ h)
+  faultless e (Misses m h o) = out-not-in m (queue z b k) o (visits-own e m .1 (own-queued m .1 h))
   faultless e (Falls h) = true≢false (sym (parts e .2) ∙ h)
 
 pub wrong-queue : WrongQueue

@@ -25,7 +25,8 @@ lowest-on t tests e = rw (e, lowest)
 pub rules-kept : (z : Size) (l : List ℕ) (b : Board) (tests : List Test) → length l ≡ total z → passes z b ≡ true
     → lowest (no1 z l ∷ no2 z b ∷ tests) ≡ lowest tests
 rules-kept z l b tests long sound =
-    lowest-on (no1 z l) (no2 z b ∷ tests) (ap not (eq-eqb (length l) (total z) long)) ∙ lowest-on (no2 z b) tests (ap not sound)
+    lowest-on (no1 z l) (no2 z b ∷ tests) (ap not (eq-eqb (length l) (total z) long))
+    ∙ lowest-on (no2 z b) tests (ap not sound)
 
 pub row-own : (z : Size) (l : List ℕ) (b : Board) (c : ℕ) (call : Call) → length l ≡ total z → passes z b ≡ true
     → lowest (row z l b c call) ≡ lowest (ownRow z b c call)
@@ -35,4 +36,5 @@ row-own z l b c call = rules-kept z l b (ownRow z b c call)
 pub rule-broken : (z : Size) (l : List ℕ) (b : Board) (tests : List Test) → length l ≡ total z → passes z b ≡ false
     → lowest (no1 z l ∷ no2 z b ∷ tests) ≡ Stop (RuleBroken (brokenRule z b))
 rule-broken z l b tests long broken =
-    lowest-on (no1 z l) (no2 z b ∷ tests) (ap not (eq-eqb (length l) (total z) long)) ∙ lowest-stop (no2 z b) tests (ap not broken)
+    lowest-on (no1 z l) (no2 z b ∷ tests) (ap not (eq-eqb (length l) (total z) long))
+    ∙ lowest-stop (no2 z b) tests (ap not broken)

@@ -62,21 +62,21 @@ case-cancelled-sleeps = refl
 case-forward-rptr : queueAfter (sleeper ++ (Send 1 1 ∷ Receive ∷ Forward 1 2 ∷ CancelMessage 1 2 ∷ Resend 1 ∷ [])) 1 ≡ 1 ∷ []
 case-forward-rptr = refl
 
--- tasks 1 and 2 with the queues 1, 3 and 2, then what LINK of message 2 says; message 3 is queued at task 1
-abbrev twoQueues : ℕ → List ℕ
+-- tasks 1 and 2 with the queues 2, 4 and 3, then what LINK of message 3 says; message 4 is queued at task 1
+abbrev pub twoQueues : ℕ → List ℕ
 twoQueues next =
     (1 ∷ 0 ∷ 0 ∷ 0 ∷ [])
-    ++ (0x01 ∷ 0x31 ∷ 2 ∷ 0 ∷ 1 ∷ 0 ∷ 0 ∷ 0 ∷ 0 ∷ 0 ∷ [])
-    ++ (0x01 ∷ 0x33 ∷ 0 ∷ 0 ∷ 2 ∷ 0 ∷ 0 ∷ 0 ∷ 0 ∷ 0 ∷ [])
+    ++ (0x01 ∷ 0x31 ∷ 2 ∷ 0 ∷ 2 ∷ 0 ∷ 0 ∷ 0 ∷ 0 ∷ 0 ∷ [])
+    ++ (0x01 ∷ 0x33 ∷ 0 ∷ 0 ∷ 3 ∷ 0 ∷ 0 ∷ 0 ∷ 0 ∷ 0 ∷ [])
     ++ replicate 10 0
-    ++ (0 ∷ 0x11 ∷ 3 ∷ 0 ∷ 0 ∷ 0 ∷ 0 ∷ 0 ∷ [])
+    ++ replicate 8 0
+    ++ (0 ∷ 0x11 ∷ 4 ∷ 0 ∷ 0 ∷ 0 ∷ 0 ∷ 0 ∷ [])
     ++ (0 ∷ 0x11 ∷ next ∷ 0 ∷ 0 ∷ 0 ∷ 0 ∷ 0 ∷ [])
     ++ (0 ∷ 0x11 ∷ 0 ∷ 0 ∷ 0 ∷ 0 ∷ 0 ∷ 0 ∷ [])
-    ++ replicate 8 0
-    ++ (65 ∷ 66 ∷ 65 ∷ 0 ∷ [])
+    ++ (0 ∷ 65 ∷ 66 ∷ 65 ∷ [])
 
 -- two queues that share a tail don't pass, and the same board with its own tails does
-case-shared-tail : check tiny (twoQueues 3) .answer ≡ Refused (RuleBroken (R5 (taskNo 2)))
+case-shared-tail : check tiny (twoQueues 4) .answer ≡ Refused (RuleBroken (R5 (taskNo 2)))
 case-shared-tail = refl
 
 case-own-tails : check tiny (twoQueues 0) .answer ≡ ok

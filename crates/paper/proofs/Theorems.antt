@@ -233,7 +233,8 @@ at-number NothingToDeliver = refl
 every-refusal : (test : Refusal → Bool) → ((r : Rule) → every test (refusals r) ≡ true) → (q : Refusal) → test q ≡ true
 every-refusal test h q =
     let l = h (ruleAt (told q .rule) (told q .recordNo)) in
-    subst (λ (x : Refusal). test x ≡ true) (at-number q) (every-at test (refusals _) WrongLength (both _ _ l .0) l (numberOf q - 1))
+    subst (λ (x : Refusal). test x ≡ true) (at-number q)
+    (every-at test (refusals _) WrongLength (both _ _ l .0) l (numberOf q - 1))
 
 -- its number is from 1 to 15
 pub refusal-number : (q : Refusal) → (0 < numberOf q) × (numberOf q < 16)
