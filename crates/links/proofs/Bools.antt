@@ -3,7 +3,7 @@
 use mathlib.Core.Path.{_≡_, refl, sym, ap, _∙_}
 use mathlib.Core.Bool.{Bool, true, false, cond, _&&_, true≢false}
 use mathlib.Core.List.{List, [], _∷_}
-use Prim.Native.Nat.{ℕ, zero, suc, _≤_}
+use Prim.Native.Nat.{ℕ, zero, suc, _+_, _≤_}
 use native.Mathlib.Omega.{arith}
 use native.Mathlib.Decide.{ℕ-discrete}
 use Rattle.links.specs.Queue.{each}
@@ -50,6 +50,11 @@ pub each-all : (f : ℕ → Bool) (n : ℕ) → ((k : ℕ) → 1 ≤ k → k ≤
 each-all f zero h = refl
 each-all f (suc n) h =
     and-true (each f n) (f (suc n)) (each-all f n (λ k g i. h k g (omega arith))) (h (suc n) (omega arith) (omega arith))
+
+-- one more passes
+pub each-next : (f : ℕ → Bool) (k : ℕ) → each f k ≡ true → f (k + 1) ≡ true → each f (k + 1) ≡ true
+each-next f k e h =
+    let s : k + 1 ≡ suc k = omega arith in ap (each f) s ∙ and-true (each f k) (f (suc k)) e (ap f (sym s) ∙ h)
 
 -- ---- each in a list
 abbrev pub every : {A : Type 0} → (A → Bool) → List A → Bool

@@ -3,3 +3,6 @@ pub mod Counting
 pub mod Lists
 pub mod Turns
 mod QueueTurns
+pub mod Places
+mod Lengths
+pub mod Breaking

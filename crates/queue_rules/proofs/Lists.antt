@@ -29,7 +29,7 @@ use Rattle.board.proofs.Pieces.{outside-within}
 use Rattle.paper.specs.Rules.{isThere, present, nextTask, nextMessage, taskNumber, messageNumber, rule3, rule5At}
 use Rattle.linked.proofs.Listings.{which-nth}
 use Rattle.queue_rules.specs.declared.Walked.the-variants.{Seen, Broken}
-use Rattle.queue_rules.specs.Walks.{visited, counted, queued, queuedAt, added, walked, saw}
+use Rattle.queue_rules.specs.Walks.{visited, counted, queued, queuedAt, queueWalked, added, walked, saw}
 use Rattle.queue_rules.proofs.Visits.{every, orderly, visited-whole}
 use Rattle.queue_rules.proofs.Counting.{sumTo, sum-zero, sum-once, sum-tight, sums-equal, counted-which, counts-add}
 
@@ -219,3 +219,12 @@ pub rule5-counted : (z : Size) (l : List ℕ) (n : ℕ) → n ≡ counted (queue
     → saw (walked z (boardOf z l) (z .tasks)) n ≡ each (rule5At z (boardOf z l)) (z .tasks)
 rule5-counted z l n e =
     ap (saw (walked z (boardOf z l) (z .tasks))) e ∙ rule5-is z (boardOf z l) (length-places z l) (places-named z l)
+
+-- and of one queue, where n is how many are queued at k
+pub rule5-one : (z : Size) (l : List ℕ) (k n : ℕ) → n ≡ counted (queuedAt (boardOf z l) k) (z .messages)
+    → saw (queueWalked z (boardOf z l) k) n ≡ rule5At z (boardOf z l) k
+rule5-one z l k n e =
+    let b = boardOf z l in
+    ap₂ saw (visited-whole (nextMessage b) (messageNumber b) (queuedAt b k) (z .messages) (task b k .mptr))
+    (e ∙ ap (counted (queuedAt b k)) (sym (length-places z l)) ∙ counted-which Free (isQueuedAt k) 1 (b .places))
+    ∙ saw-cond (fine z b k) (length (walkOf z b k)) (length (placedAt z b k)) ∙ sym (rule5-at z b k)

@@ -7,14 +7,21 @@
 --   queueWalked z b k                  the walk of task k's queue
 --   walked z b n                       the walks of the queues of tasks 1 to n, one after the other
 --   saw w n                            a walk that ended and saw n
+--   Lengths b n t                      of the messages from 1 to n so many are queued at each task below 256, by its number in the table t
+--   breaking z f                       the smallest task that f is not true of, if any
 -- Assumes nothing.
+use mathlib.Core.Path.{_≡_}
 use mathlib.Core.Bool.{Bool, false, cond, _&&_}
-use Prim.Native.Nat.{ℕ, zero, suc, _+_}
+use mathlib.Core.List.{List}
+use Prim.Native.Nat.{ℕ, zero, suc, _+_, _<_}
+use lib.ListN.{getD}
 use lib.Dec.{eqb, leb}
+use Rattle.links.specs.Queue.{smallestFailing}
 use Rattle.board.specs.declared.numbers.Size.{Size}
+use Rattle.board.specs.declared.numbers.TaskMeant.{TaskMeant}
 use Rattle.board.specs.declared.numbers.MessageMeant.{MessageMeant}
 use Rattle.board.specs.declared.numbers.MessageMeant.the-variants.{Message, NoMessage}
-use Rattle.board.specs.Numbers.{messageMeant}
+use Rattle.board.specs.Numbers.{taskMeant, messageMeant}
 use Rattle.board.specs.Places.{isQueuedAt, isQueued}
 use Rattle.board.specs.Board.{Board, task, place}
 use Rattle.paper.specs.Rules.{nextMessage, messageNumber}
@@ -71,3 +78,9 @@ walked z b (suc k) = added (walked z b k) (queueWalked z b (suc k))
 abbrev pub saw : Walked → ℕ → Bool
 saw (Seen n) m = eqb n m
 saw Broken m = false
+
+abbrev pub Lengths : Board → ℕ → List ℕ → Type 0
+Lengths b n t = (k : ℕ) → k < 256 → getD t k 0 ≡ counted (queuedAt b k) n
+
+abbrev pub breaking : Size → (ℕ → Bool) → TaskMeant
+breaking z f = taskMeant z (smallestFailing f (z .tasks))

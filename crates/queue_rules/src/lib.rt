@@ -1,18 +1,22 @@
 // CODE. R5: the links of a queue visit the messages that are queued there, and priority numbers never fall. The walk follows links while each
 // leads to a message that belongs to the queue, and tells how many it saw. As many as there are, all different: then it saw exactly those.
 ghost use mathlib.Core.Path.{_≡_};
-ghost use mathlib.Core.Bool.{false};
-ghost use Prim.Native.Nat.{_≤_};
+ghost use mathlib.Core.Bool.{false, cond};
+ghost use Prim.Native.Nat.{_≤_, _<_};
 ghost use lib.ListN.{length};
 ghost use Rattle.board.specs.Numbers.{outside};
 ghost use Rattle.board.specs.Board.{total, boardOf};
-ghost use Rattle.queue_rules.specs.Walks.{messageTurned, queueVisited, queueWalked, walked, saw};
+ghost use Rattle.board.specs.declared.numbers.TaskMeant.the-variants.{NoTask};
+ghost use Rattle.paper.specs.Rules.{rule5At};
+ghost use Rattle.queue_rules.specs.Walks.{messageTurned, queueVisited, queueWalked, walked, saw, Lengths, breaking};
 use board::numbers::MessageMeant;
 use board::numbers::MsgNo;
 use board::numbers::Size;
 use board::numbers::TaskMeant;
 use board::numbers::TaskNo;
+use board::places::Place;
 use board::priority::number;
+use lent::by_word::place_meant;
 use lent::bytes::MessageLink;
 use lent::bytes::link_from;
 use lent::bytes::prio_of;
@@ -80,6 +84,16 @@ fn walk_from(z: Size, l: &[u8], k: TaskNo, first: MsgNo) -> Walked
     Walked::Broken
 }
 
+// A walk that ended and saw so many.
+fn saw(w: Walked, n: u16) -> bool
+    ensures { λ res. ⌜ res ≡ saw w n ⌝ }
+{
+    let Walked::Seen(seen) = w else {
+        return false;
+    };
+    seen == n as u32
+}
+
 fn walk_queue(z: Size, l: &[u8], k: TaskNo) -> Walked
     requires { ⌜ total z ≤ length (now l) ⌝ }
     ensures { λ res. ⌜ res ≡ queueWalked z (boardOf z (now (l .entry))) (k .0) ⌝ }
@@ -117,14 +131,54 @@ fn walk_queues(z: Size, l: &[u8]) -> Walked
     Walked::Seen(sum)
 }
 
-// R5, where so many messages are queued: the walks of all queues saw as many.
-pub fn rule5(z: Size, l: &[u8], queued: u16) -> bool
+// How many messages are queued at each task, by its number.
+fn queue_lengths(z: Size, l: &[u8]) -> [u16; 256]
     requires { ⌜ total z ≤ length (now l) ⌝ }
-    ensures { λ res. ⌜ res ≡ saw (walked z (boardOf z (now (l .entry))) (z .tasks)) queued ⌝ }
+    ensures { λ res. ⌜ Lengths (boardOf z (now (l .entry))) (z .messages) res ⌝ }
 {
-    let walks = walk_queues(z, l);
-    let Walked::Seen(n) = walks else {
-        return false;
-    };
-    n == queued as u32
+    let most = z.messages;
+    let mut lengths = [0u16; 256];
+    let mut m: u16 = 0;
+    while m < most {
+        m += 1;
+        let p = place_meant(z, l, m);
+        if let Place::QueuedAt(k) = p {
+            let i = k.number() as usize;
+            if i < 256 {
+                lengths[i] += 1;
+            }
+        }
+    }
+    lengths
+}
+
+// The smallest task whose queue is wrong, if any: its walk strays, or does not see as many messages as are queued there.
+fn wrong_queue(z: Size, l: &[u8]) -> TaskMeant
+    requires { ⌜ (total z ≤ length (now l)) × (z .tasks < 256) ⌝ }
+    ensures { λ res. ⌜ res ≡ breaking z (rule5At z (boardOf z (now (l .entry)))) ⌝ }
+{
+    let lengths = queue_lengths(z, l);
+    let most = z.tasks;
+    let mut k: u16 = 0;
+    while k < most {
+        k += 1;
+        let meant = TaskNo::meant(z, k);
+        if let TaskMeant::Task(j) = meant {
+            if !saw(walk_queue(z, l, j), lengths[k as usize]) {
+                return meant;
+            }
+        }
+    }
+    TaskMeant::NoTask
+}
+
+// R5, where so many messages are queued: the smallest task whose queue is wrong, if any. Where the walks of all queues saw as many, none is.
+pub fn rule5(z: Size, l: &[u8], queued: u16) -> TaskMeant
+    requires { ⌜ (total z ≤ length (now l)) × (z .tasks < 256) ⌝ }
+    ensures { λ res. ⌜ res ≡ cond (saw (walked z (boardOf z (now (l .entry))) (z .tasks)) queued) NoTask (breaking z (rule5At z (boardOf z (now (l .entry))))) ⌝ }
+{
+    if saw(walk_queues(z, l), queued) {
+        return TaskMeant::NoTask;
+    }
+    wrong_queue(z, l)
 }

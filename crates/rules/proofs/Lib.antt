@@ -1,3 +1,2 @@
 mod Turns
-mod Places
 pub mod Checking

@@ -8,61 +8,73 @@ ghost use Prim.Native.Nat.{_≤_};
 ghost use lib.ListN.{length};
 ghost use Rattle.board.specs.Board.{total, boardOf};
 ghost use Rattle.rules.specs.Checked.{checkedOf, notDue};
-use crate::records::Survey;
-use crate::records::good_tasks;
 use crate::records::rule1;
-use crate::records::rule4;
+use crate::records::survey_messages;
+use crate::records::survey_tasks;
+use board::numbers::MessageMeant;
 use board::numbers::Size;
 use board::numbers::TaskMeant;
 use board::status::Status;
 use lent::bytes::task_at;
 use order_rules::tasks::Order;
 use order_rules::tasks::rule3;
+use paper::answer::Rule;
 use queue_rules::rule5;
 
 // What the check found: a broken rule, or that this task runs.
 pub enum Checked {
-    Broken,
+    Broken(Rule),
     Passes(TaskMeant),
 }
 
-// R7, where c runs: it isn't due a message.
-pub fn rule7(z: Size, l: &[u8], c: TaskMeant) -> bool
+// R7, where c runs: c if it is due a message.
+fn rule7(z: Size, l: &[u8], c: TaskMeant) -> TaskMeant
     requires { ⌜ total z ≤ length (now l) ⌝ }
-    ensures { λ res. ⌜ res ≡ notDue (boardOf z (now (l .entry))) c ⌝ }
+    ensures { λ res. ⌜ res ≡ dueOf (boardOf z (now (l .entry))) c ⌝ }
 {
     let TaskMeant::Task(k) = c else {
-        return true;
+        return TaskMeant::NoTask;
     };
     let t = task_at(z, l, k);
     let s = t.stat;
-    !s.has(Status::MHBS)
+    if s.has(Status::MHBS) {
+        return c;
+    }
+    TaskMeant::NoTask
 }
 
 pub fn check_rules(z: Size, l: &[u8]) -> Checked
-    requires { ⌜ total z ≤ length (now l) ⌝ }
+    requires { ⌜ Counted z (now l) ⌝ }
     ensures { λ res. ⌜ res ≡ checkedOf z (boardOf z (now (l .entry))) ⌝ }
 {
     if !rule1(l) {
-        return Checked::Broken;
+        return Checked::Broken(Rule::R1);
     }
-    let tasks = good_tasks(z, l);
-    let Survey::Good(present) = tasks else {
-        return Checked::Broken;
-    };
-    let order = rule3(z, l, present);
+    let tasks = survey_tasks(z, l);
+    let bad = tasks.bad;
+    if let TaskMeant::Task(k) = bad {
+        return Checked::Broken(Rule::R2(k));
+    }
+    let order = rule3(z, l, tasks.present);
     let Order::Listed(c) = order else {
-        return Checked::Broken;
+        return Checked::Broken(Rule::R3);
     };
-    let messages = rule4(z, l);
-    let Survey::Good(queued) = messages else {
-        return Checked::Broken;
-    };
-    if !rule5(z, l, queued) {
-        return Checked::Broken;
+    let messages = survey_messages(z, l);
+    let astray = messages.bad;
+    if let MessageMeant::Message(m) = astray {
+        return Checked::Broken(Rule::R4(m));
     }
-    if !rule7(z, l, c) {
-        return Checked::Broken;
+    let wrong = rule5(z, l, messages.queued);
+    if let TaskMeant::Task(k) = wrong {
+        return Checked::Broken(Rule::R5(k));
+    }
+    let flags = tasks.flags;
+    if let TaskMeant::Task(k) = flags {
+        return Checked::Broken(Rule::R6(k));
+    }
+    let due = rule7(z, l, c);
+    if let TaskMeant::Task(k) = due {
+        return Checked::Broken(Rule::R7(k));
     }
     Checked::Passes(c)
 }

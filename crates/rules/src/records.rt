@@ -9,7 +9,10 @@ ghost use Rattle.board.specs.Board.{total, boardOf};
 ghost use Rattle.queue_rules.specs.Walks.{counted, queued};
 ghost use Rattle.rules.specs.Checked.{surveyed};
 ghost use Rattle.paper.specs.Rules.{present, allZero, rule2At, goodMessage, rule4At, rule6At};
+use board::numbers::MessageMeant;
+use board::numbers::MsgNo;
 use board::numbers::Size;
+use board::numbers::TaskMeant;
 use board::numbers::TaskNo;
 use board::places::Place;
 use board::records::Message;
@@ -23,12 +26,18 @@ use record_rules::messages::good_queued;
 use record_rules::messages::zero_message;
 use record_rules::tasks::good_flags;
 use record_rules::tasks::good_task;
-use record_rules::tasks::good_task_and_flags;
 
-// Every record passed, and so many of them are there, present tasks or queued messages; or one did not pass.
-pub enum Survey {
-    Good(u16),
-    Broken,
+// What a look at every task's record tells: the first that breaks R2, the first that breaks R6, and how many tasks are present.
+pub struct Tasks {
+    pub bad: TaskMeant,
+    pub flags: TaskMeant,
+    pub present: u16,
+}
+
+// And at every message's: the first that breaks R4, and how many messages are queued.
+pub struct Messages {
+    pub bad: MessageMeant,
+    pub queued: u16,
 }
 
 pub fn rule1(l: &[u8]) -> bool
@@ -41,21 +50,6 @@ pub fn rule1(l: &[u8]) -> bool
         return false;
     }
     byte(l, 3) == 0
-}
-
-pub fn rule2(z: Size, l: &[u8]) -> bool
-    requires { ⌜ total z ≤ length (now l) ⌝ }
-    ensures { λ res. ⌜ res ≡ each (rule2At (boardOf z (now (l .entry)))) (z .tasks) ⌝ }
-{
-    let most = z.tasks;
-    let mut k: u16 = 0;
-    while k < most {
-        k += 1;
-        if !good_task(task_meant(z, l, k)) {
-            return false;
-        }
-    }
-    true
 }
 
 fn present_at(z: Size, l: &[u8], k: TaskNo) -> bool
@@ -78,61 +72,56 @@ fn good_message(z: Size, l: &[u8], u: Message, p: Place) -> bool
     }
 }
 
-// R4, and how many messages are queued.
-pub fn rule4(z: Size, l: &[u8]) -> Survey
+pub fn survey_messages(z: Size, l: &[u8]) -> Messages
     requires { ⌜ total z ≤ length (now l) ⌝ }
-    ensures { λ res. ⌜ res ≡ surveyed (each (rule4At z (boardOf z (now (l .entry)))) (z .messages)) (counted (queued (boardOf z (now (l .entry)))) (z .messages)) ⌝ }
+    ensures { λ res. ⌜ res ≡ messagesSeen z (boardOf z (now (l .entry))) ⌝ }
 {
     let most = z.messages;
     let mut m: u16 = 0;
-    let mut n: u16 = 0;
+    let mut bad = MessageMeant::NoMessage;
+    let mut queued: u16 = 0;
     while m < most {
         m += 1;
         let u = message_meant(z, l, m);
         let p = place_meant(z, l, m);
         if !good_message(z, l, u, p) {
-            return Survey::Broken;
+            bad = bad.or(MsgNo::meant(z, m));
         }
         if let Place::QueuedAt(_) = p {
-            n += 1;
+            queued += 1;
         }
     }
-    Survey::Good(n)
+    Messages {
+        bad: bad,
+        queued: queued,
+    }
 }
 
-pub fn rule6(z: Size, l: &[u8]) -> bool
+pub fn survey_tasks(z: Size, l: &[u8]) -> Tasks
     requires { ⌜ total z ≤ length (now l) ⌝ }
-    ensures { λ res. ⌜ res ≡ each (rule6At (boardOf z (now (l .entry)))) (z .tasks) ⌝ }
+    ensures { λ res. ⌜ res ≡ tasksSeen z (boardOf z (now (l .entry))) ⌝ }
 {
     let most = z.tasks;
     let mut k: u16 = 0;
+    let mut bad = TaskMeant::NoTask;
+    let mut flags = TaskMeant::NoTask;
+    let mut present: u16 = 0;
     while k < most {
         k += 1;
         let t = task_meant(z, l, k);
+        if !good_task(t) {
+            bad = bad.or(TaskNo::meant(z, k));
+        }
         if !good_flags(t.stat, t.mptr == 0) {
-            return false;
-        }
-    }
-    true
-}
-
-// R2 and R6 in one pass over the tasks, and how many are present: the check asks it. Who tells which rule is broken asks them one by one.
-pub fn good_tasks(z: Size, l: &[u8]) -> Survey
-    requires { ⌜ total z ≤ length (now l) ⌝ }
-    ensures { λ res. ⌜ res ≡ surveyed (each (rule2At (boardOf z (now (l .entry)))) (z .tasks) && each (rule6At (boardOf z (now (l .entry)))) (z .tasks)) (counted (present (boardOf z (now (l .entry)))) (z .tasks)) ⌝ }
-{
-    let most = z.tasks;
-    let mut k: u16 = 0;
-    let mut n: u16 = 0;
-    while k < most {
-        k += 1;
-        let t = task_meant(z, l, k);
-        if !good_task_and_flags(t) {
-            return Survey::Broken;
+            flags = flags.or(TaskNo::meant(z, k));
         }
         if t.present() {
-            n += 1;
+            present += 1;
         }
     }
-    Survey::Good(n)
+    Tasks {
+        bad: bad,
+        flags: flags,
+        present: present,
+    }
 }

@@ -44,13 +44,14 @@ pub fn check(l: &[u8]) -> Answer
     if !sized(l) {
         return Answer::Refused(Refusal::WrongLength);
     }
-    let Checked::Passes(who) = checked_small(l) else {
-        return Answer::Refused(Refusal::RuleBroken);
-    };
-    Answer::Accepted {
-        value: 0,
-        running: who.number(),
-        delivered: 0,
+    let checked = checked_small(l);
+    match checked {
+        Checked::Broken(r) => Answer::Refused(Refusal::RuleBroken(r)),
+        Checked::Passes(c) => Answer::Accepted {
+            value: 0,
+            running: c.number(),
+            delivered: 0,
+        },
     }
 }
 
@@ -61,10 +62,11 @@ pub fn step(l: &mut [u8], call: Call) -> Answer
     if !sized(l) {
         return Answer::Refused(Refusal::WrongLength);
     }
-    let Checked::Passes(who) = checked_small(l) else {
-        return Answer::Refused(Refusal::RuleBroken);
-    };
-    make_call(Size::SMALL, l, who, call)
+    let checked = checked_small(l);
+    match checked {
+        Checked::Broken(r) => Answer::Refused(Refusal::RuleBroken(r)),
+        Checked::Passes(c) => make_call(Size::SMALL, l, c, call),
+    }
 }
 
 // Who runs on a board that keeps R1 to R7. The one place where the library asks the check, so that it is compiled for this size.
