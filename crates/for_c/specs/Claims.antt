@@ -1,11 +1,11 @@
 -- What the packed word tells C, as statements; their proofs are in proofs/Theorems. A reader of the exports must believe this file.
---   Words a          value, running and delivered are words, as the code's types have it
+--   Words a          value, running and delivered are words, as the code's types have it, and the record is a byte
 --   PackedTells      the packed word tells the answer
 --   NoAnswerIs255    255, which C is told where it asked for no call, is no answer's word
 -- Assumes nothing.
 use mathlib.Core.Path.{_≡_}
 use mathlib.Core.Logic.{_≢_}
-use Rattle.board.specs.Records.{Word}
+use Rattle.board.specs.Records.{Byte, Word}
 use Rattle.paper.specs.declared.answer.Answer.{Answer}
 use Rattle.paper.specs.Answers.{handed}
 use Rattle.for_c.specs.Packed.{packed}
@@ -14,6 +14,7 @@ pub record Words (a : Answer) : Type 0 where
   pub value : Word (handed a .value)
   pub running : Word (handed a .running)
   pub delivered : Word (handed a .delivered)
+  pub recordNo : Byte (handed a .recordNo)
 
 abbrev pub PackedTells : Type 0
 PackedTells = (a e : Answer) → Words a → Words e → packed (handed a) ≡ packed (handed e) → a ≡ e

@@ -88,7 +88,7 @@ verdict-stays z l = let b = boardOf z l in let c = running z b in let (calls, ch
 
 -- ---- the lowest rule is named, with the smallest record
 -- a rule has a number from 1 to 7
-rule-number : (r : Rule) → Within 7 (ruleNumber r)
+pub rule-number : (r : Rule) → Within 7 (ruleNumber r)
 rule-number R1 = (lit≤ tt, lit≤ tt)
 rule-number (R2 k) = (lit≤ tt, lit≤ tt)
 rule-number R3 = (lit≤ tt, lit≤ tt)
