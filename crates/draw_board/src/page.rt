@@ -15,6 +15,7 @@ use telling::print::text;
 use telling::state::State;
 use telling::state::print_state;
 use telling::state::state_of;
+use telling::state::tell_bit;
 use telling::totals::tell_blocks;
 use telling::totals::tell_installed;
 
@@ -111,17 +112,11 @@ fn draw_class(s: State) {
     ;
 }
 
-fn draw_flag(s: Status, bit: u8, name: &[u8]) {
-    if s.has(bit) {
-        text(name);
-    }
-}
-
 fn draw_flags(s: Status) {
     text(b"<text class='small right' x='328' y='41'>");
-    draw_flag(s, Status::INTQ, b" INTQ");
-    draw_flag(s, Status::DEBUG, b" DEBUG");
-    draw_flag(s, Status::MROB, b" MROB");
+    tell_bit(s, Status::INTQ, b" INTQ");
+    tell_bit(s, Status::DEBUG, b" DEBUG");
+    tell_bit(s, Status::MROB, b" MROB");
     text(b"</text>");
 }
 

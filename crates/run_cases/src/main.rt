@@ -1,10 +1,13 @@
 // PROGRAM. Cases from standard input, one after the other: the length of the board as a word, a call of nine bytes (kind, three words, STAT,
-// PRIO; kind 0 checks the board, kind 254 makes it fresh), and the board. For each it writes a line: refusal number, value, running and
-// delivered, and then each byte of the board that changed, as place=value. So any other maker's answers can be compared with ours as text.
+// PRIO; kind 0 checks the board, kind 254 makes it fresh), and the board. For each it writes a line: refusal number, value, running,
+// delivered, broken rule and its record, and then each byte of the board that changed, as place=value. So any other maker's answers can be
+// compared with ours as text.
 ghost use Prim.Native.Nat.{_<_};
 use for_c::asked::Asked;
 use for_c::asked::call_of_kind;
+use for_c::pack::record_number;
 use for_c::pack::refusal_number;
+use for_c::pack::rule_number;
 use libc::STDIN_FILENO;
 use libc::STDOUT_FILENO;
 use paper::answer::Answer;
@@ -29,6 +32,17 @@ fn print_text(text: &[u8]) {
     io::write_all(STDOUT_FILENO, text);
 }
 
+// The broken rule and its record, zeros where the refusal is another.
+fn print_rule(q: Refusal) {
+    let Refusal::RuleBroken(r) = q else {
+        print_text(b"0 0");
+        return;
+    };
+    print_number(wide(rule_number(r)));
+    print_text(b" ");
+    print_number(record_number(r));
+}
+
 fn print_answer(a: Answer) {
     match a {
         Answer::Accepted {
@@ -42,10 +56,12 @@ fn print_answer(a: Answer) {
             print_number(running);
             print_text(b" ");
             print_number(delivered);
+            print_text(b" 0 0");
         }
         Answer::Refused(q) => {
             print_number(wide(refusal_number(q)));
-            print_text(b" 0 0 0");
+            print_text(b" 0 0 0 ");
+            print_rule(q);
         }
     }
 }
@@ -95,7 +111,7 @@ fn answer_to(kind: u8, asked: Asked, board: &mut [u8]) {
         return;
     }
     let Asked::Made(call) = asked else {
-        print_text(b"255 0 0 0");
+        print_text(b"255 0 0 0 0 0");
         return;
     };
     print_answer(station::step(board, call));

@@ -1,6 +1,8 @@
 // PROGRAM. A board from standard input as tables: the totals, then the tasks in queue order, each with its state, what it holds and what is
-// queued at it. A board that the check refuses is not shown; its refusal is told.
+// queued at it. Of a board that breaks a rule the refusal is told, and its records are shown by their numbers; of bytes of another length
+// the refusal alone.
 mod lists;
+mod records;
 
 ghost use Prim.Native.Nat.{_≤_};
 ghost use lib.ListN.{length};
@@ -18,6 +20,8 @@ use lent::bytes::task_at;
 use libc::STDIN_FILENO;
 use lists::show_held;
 use lists::show_queue;
+use paper::answer::Refusal;
+use records::show_records;
 use telling::finding::Finding;
 use telling::finding::judged;
 use telling::finding::tell_running;
@@ -27,6 +31,7 @@ use telling::print::shown;
 use telling::print::text;
 use telling::state::print_state;
 use telling::state::state_of;
+use telling::state::tell_bit;
 use telling::totals::tell_blocks;
 use telling::totals::tell_installed;
 
@@ -42,25 +47,18 @@ fn show_totals(l: &[u8], runs: u16)
 }
 
 // The name as two characters, low byte first as it is stored, and as a word.
-fn show_name(w: u16) {
+pub(crate) fn show_name(w: u16) {
     text(b"  '");
     text(&[shown((w % 256) as u8), shown((w / 256) as u8)]);
     text(b"' ");
     hex_word(w);
 }
 
-fn show_flag(s: Status, bit: u8, meaning: &[u8]) {
-    if s.has(bit) {
-        text(b", ");
-        text(meaning);
-    }
-}
-
 fn show_state(s: Status, runs: bool) {
     print_state(state_of(s, runs));
-    show_flag(s, Status::INTQ, b"an interrupt is posted (INTQ)");
-    show_flag(s, Status::DEBUG, b"being debugged (DEBUG)");
-    show_flag(s, Status::MROB, b"main registers only (MROB)");
+    tell_bit(s, Status::INTQ, b", an interrupt is posted (INTQ)");
+    tell_bit(s, Status::DEBUG, b", being debugged (DEBUG)");
+    tell_bit(s, Status::MROB, b", main registers only (MROB)");
     text(b"\n");
 }
 
@@ -99,18 +97,32 @@ fn show_tasks(l: &[u8], runs: u16)
     }
 }
 
-fn show(l: &[u8]) {
-    let found = judged(l);
-    let Finding::Passes(runs) = found else {
-        return;
-    };
-    // what passes is whole: the readers want to see it
-    if l.len() < 1476 {
-        return;
-    }
+fn show_board(l: &[u8], runs: u16)
+    requires { ⌜ total small ≤ length (now l) ⌝ }
+{
     show_totals(l, runs);
     if !no_tasks(l) {
         show_tasks(l, runs);
+    }
+}
+
+fn show_refused(l: &[u8], q: Refusal)
+    requires { ⌜ total small ≤ length (now l) ⌝ }
+{
+    if let Refusal::RuleBroken(r) = q {
+        show_records(l, r);
+    }
+}
+
+fn show(l: &[u8]) {
+    let found = judged(l);
+    // the readers want to see a whole board; what is shorter was refused with 1
+    if l.len() < 1476 {
+        return;
+    }
+    match found {
+        Finding::Passes(runs) => show_board(l, runs),
+        Finding::Refused(q) => show_refused(l, q),
     }
 }
 

@@ -1,34 +1,22 @@
-// What the check says of a board, in one line of words.
+// What the check says of a board, in one line of words that names the broken rule and the record.
 ghost use mathlib.Core.Path.{_≡_};
 ghost use lib.Dec.{ltb};
-ghost use Prim.Native.Nat.{_≤_};
-ghost use lib.ListN.{length};
 ghost use Rattle.board.specs.Numbers.{small};
-ghost use Rattle.board.specs.Board.{total, boardOf};
 ghost use Rattle.paper.specs.Outcomes.{Outcome, check};
-ghost use Rattle.telling.specs.Findings.{findingOf, brokenRule};
+ghost use Rattle.telling.specs.Findings.{findingOf};
 use crate::print::decimal;
 use crate::print::text;
-use crate::totals::count_present;
-use board::numbers::Size;
 use for_c::pack::refusal_number;
-use order_rules::tasks::Order;
-use order_rules::tasks::rule3;
+use for_c::pack::rule_number;
 use paper::answer::Answer;
 use paper::answer::Refusal;
-use queue_rules::rule5;
-use rules::records::Survey;
-use rules::records::rule1;
-use rules::records::rule2;
-use rules::records::rule4;
-use rules::records::rule6;
-use rules::rule7;
+use paper::answer::Rule;
 use station::check;
 
 // The board passes and this task runs, 0 for none; or it is refused.
 pub enum Finding {
     Passes(u16),
-    Refused,
+    Refused(Refusal),
 }
 
 // A program reads so many bytes at most: more are not counted.
@@ -47,7 +35,7 @@ fn thousands(n: u64) {
     decimal(n % 10);
 }
 
-fn tell_length(n: usize) {
+fn tell_bytes(n: usize) {
     thousands(n as u64);
     if n == 1 {
         text(b" byte");
@@ -59,66 +47,78 @@ fn tell_length(n: usize) {
     }
 }
 
-// The first rule that the board breaks, 0 for none.
-fn broken_rule(z: Size, l: &[u8]) -> u8
-    requires { ⌜ total z ≤ length (now l) ⌝ }
-    ensures { λ res. ⌜ res ≡ brokenRule z (boardOf z (now (l .entry))) ⌝ }
-{
-    if !rule1(l) {
-        return 1;
-    }
-    if !rule2(z, l) {
-        return 2;
-    }
-    let order = rule3(z, l, count_present(z, l));
-    let Order::Listed(c) = order else {
-        return 3;
-    };
-    let messages = rule4(z, l);
-    let Survey::Good(queued) = messages else {
-        return 4;
-    };
-    if !rule5(z, l, queued) {
-        return 5;
-    }
-    if !rule6(z, l) {
-        return 6;
-    }
-    if !rule7(z, l, c) {
-        return 7;
-    }
-    0
+fn tell_length(n: usize) {
+    tell_bytes(n);
+    text(b"; a board is 1,476");
 }
 
-fn tell_rule(rule: u8) {
-    match rule {
-        1 => text(b"R1, bytes 1 to 3 are not zero"),
-        2 => text(b"R2, the record of a task is neither zero nor good"),
-        3 => text(b"R3, the task queue does not list each task once and in order"),
-        4 => text(b"R4, the record of a message does not go with its place"),
-        5 => text(b"R5, a queue does not list each of its messages once and in order"),
-        6 => text(b"R6, the status of a task does not go with its queue"),
-        _ => text(b"R7, the running task is still due a message"),
-    }
-    ;
+// What is wrong with the record of this number.
+fn tell_record(before: &[u8], n: u16, behind: &[u8]) {
+    text(before);
+    decimal(n as u64);
+    text(behind);
 }
 
-// The check gives two refusals only: a board of the right length breaks a rule.
-fn tell_reason(l: &[u8]) {
-    if l.len() != 1476 {
-        tell_length(l.len());
-        text(b"; a board is 1,476\n");
+// A rule of document 01 as the board breaks it.
+fn tell_fault(r: Rule) {
+    match r {
+        Rule::R1 => {
+            text(b"bytes 1 to 3 are not zero");
+        }
+        Rule::R2(k) => tell_record(
+            b"the record of task ",
+            k.number(),
+            b" is neither zero nor that of a task (STAT and PRIO)",
+        ),
+        Rule::R3 => {
+            text(b"the task queue does not visit exactly the present tasks, in order of priority");
+        }
+        Rule::R4(m) => tell_record(
+            b"the record of message ",
+            m.number(),
+            b" does not go with its place",
+        ),
+        Rule::R5(k) => tell_record(
+            b"the queue of task ",
+            k.number(),
+            b" does not visit exactly the messages placed there, in order of priority",
+        ),
+        Rule::R6(k) => tell_record(
+            b"WAIT, IWAT, INTQ and MHBS of task ",
+            k.number(),
+            b" do not go together, or not with its queue",
+        ),
+        Rule::R7(k) => tell_record(
+            b"the running task ",
+            k.number(),
+            b" is still due a message (MHBS)",
+        ),
+    }
+}
+
+fn tell_rule(r: Rule) {
+    text(b"rule ");
+    decimal(rule_number(r) as u64);
+    text(b": ");
+    tell_fault(r);
+}
+
+// The check gives two refusals only: the length is wrong, or a rule is broken.
+fn tell_reason(q: Refusal, n: usize) {
+    if let Refusal::RuleBroken(r) = q {
+        tell_rule(r);
         return;
     }
-    tell_rule(broken_rule(Size::SMALL, l));
-    text(b"\n");
+    tell_length(n);
 }
 
-fn tell_refusal(q: Refusal, l: &[u8]) {
+// The refusal of a board of n bytes.
+fn tell_refusal(q: Refusal, n: usize) {
     text(b"refused (");
     decimal(refusal_number(q) as u64);
     text(b"): ");
-    tell_reason(l);
+    tell_reason(q, n);
+    text(b"\n");
 }
 
 // The board is checked; a refusal is told in its line.
@@ -133,8 +133,8 @@ pub fn judged(l: &[u8]) -> Finding
             delivered: _,
         } => Finding::Passes(running),
         Answer::Refused(q) => {
-            tell_refusal(q, l);
-            Finding::Refused
+            tell_refusal(q, l.len());
+            Finding::Refused(q)
         }
     }
 }

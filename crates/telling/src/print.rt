@@ -53,7 +53,15 @@ fn hex_digit(w: u16) -> u8 {
     (55 + d) as u8
 }
 
-// A word as the paper writes it, with an H behind it.
+// A byte as the paper writes it, with an H behind it.
+pub fn hex_byte(b: u8) -> usize
+    ensures { λ res. ⌜ res ≡ 3 ⌝ }
+{
+    let w = b as u16;
+    text(&[hex_digit(w / 16), hex_digit(w), b'H'])
+}
+
+// A word likewise.
 pub fn hex_word(w: u16) -> usize
     ensures { λ res. ⌜ res ≡ 5 ⌝ }
 {

@@ -1,6 +1,7 @@
-// The state of a task in words.
+// The state of a task in words, and the bits of its status.
 ghost use mathlib.Core.Path.{_≡_};
 ghost use Prim.Native.Nat.{_≤_};
+ghost use Rattle.board.specs.Status.{has};
 ghost use Rattle.telling.specs.States.{stateOf};
 use crate::print::text;
 use board::status::Status;
@@ -42,4 +43,15 @@ pub fn print_state(s: State) -> usize
         State::Waits => text(b"waits for a message (WAIT)"),
         State::WaitsForInterrupt => text(b"waits for an interrupt (IWAT)"),
     }
+}
+
+// Words for a bit, where it is set. Answers whether it is.
+pub fn tell_bit(s: Status, bit: u8, words: &[u8]) -> bool
+    ensures { λ res. ⌜ res ≡ has s bit ⌝ }
+{
+    let set = s.has(bit);
+    if set {
+        text(words);
+    }
+    set
 }
