@@ -1,5 +1,5 @@
 //! What a call answers.
-use crate::{MsgNo, TaskNo};
+use crate::{MsgNo, Rule, TaskNo};
 use core::fmt;
 
 /// A call is accepted or refused. A refused call has changed no byte.
@@ -24,7 +24,7 @@ impl<T> Accepted<T> {
 }
 
 /// An answer as the library packs it, from the lowest bit: 8 bits of refusal, 0 if accepted; then 16 each of value, running,
-/// delivered.
+/// delivered, or with refusal 2 8 each of rule and record.
 pub(crate) fn unpack(word: u64) -> Answer<u16> {
     match word as u8 {
         0 => Ok(Accepted {
@@ -33,35 +33,42 @@ pub(crate) fn unpack(word: u64) -> Answer<u16> {
             delivered: MsgNo::some((word >> 40) as u16),
         }),
         // 255 is for a kind that is no call, and no method asks one
-        number => Err(Refusal::from_number(number).expect("the library refuses with 1 to 15")),
+        number => {
+            let [_, rule, record, ..] = word.to_le_bytes();
+            Err(Refusal::from_numbers(number, rule, record.into()).expect("the library refuses with 1 to 15, and 2 has a rule"))
+        }
     }
 }
 
-/// Defines the refusals once: number, name, words.
+/// Defines the refusals once: number, name, what comes with it, words.
 macro_rules! refusals {
-    ($($number:literal $name:ident $words:literal)*) => {
+    ($($number:literal $name:ident $(($with:ident))? $words:literal)*) => {
         /// Why a call is refused. If several reasons apply, the one of the lowest number is given.
         #[derive(Clone, Copy, Debug, PartialEq, Eq, PartialOrd, Ord, Hash)]
-        #[repr(u8)]
         pub enum Refusal {
-            $(#[doc = $words] $name = $number,)*
+            $(#[doc = $words] $name $(($with))?,)*
         }
 
         impl Refusal {
-            /// All of them, by number.
-            pub const ALL: [Refusal; 15] = [$(Refusal::$name),*];
-
-            /// The refusal of that number, if there is one.
-            pub const fn from_number(number: u8) -> Option<Refusal> {
+            /// The refusal of that number, if there is one. With 2 comes the rule of that number and record; others do not look
+            /// at these.
+            pub fn from_numbers(number: u8, rule: u8, record: u16) -> Option<Refusal> {
                 match number {
-                    $($number => Some(Refusal::$name),)*
+                    $($number => Some(Refusal::$name $(($with::from_numbers(rule, record)?))?),)*
                     _ => None,
+                }
+            }
+
+            /// Its number, 1 to 15.
+            pub const fn number(self) -> u8 {
+                match self {
+                    $(Refusal::$name { .. } => $number,)*
                 }
             }
 
             const fn words(self) -> &'static str {
                 match self {
-                    $(Refusal::$name => $words,)*
+                    $(Refusal::$name { .. } => $words,)*
                 }
             }
         }
@@ -70,7 +77,7 @@ macro_rules! refusals {
 
 refusals! {
     1 WrongLength "the board isn't 1,476 bytes"
-    2 RuleBroken "such a board cannot exist"
+    2 RuleBroken(Rule) "such a board cannot exist"
     3 NobodyRuns "no task is running"
     4 NoSuchMessage "there is no message of that number"
     5 NotHeld "the running task doesn't hold the message"
@@ -86,16 +93,14 @@ refusals! {
     15 NothingToDeliver "there is nothing to deliver; proved never to be given"
 }
 
-impl Refusal {
-    /// Its number, 1 to 15.
-    pub const fn number(self) -> u8 {
-        self as u8
-    }
-}
-
+/// The words and the number; then the rule that is broken, if it is one.
 impl fmt::Display for Refusal {
     fn fmt(&self, f: &mut fmt::Formatter<'_>) -> fmt::Result {
-        write!(f, "{} (refusal {})", self.words(), self.number())
+        write!(f, "{} (refusal {})", self.words(), self.number())?;
+        match self {
+            Refusal::RuleBroken(rule) => write!(f, ": {rule}"),
+            _ => Ok(()),
+        }
     }
 }
 

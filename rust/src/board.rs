@@ -68,7 +68,7 @@ impl<B: AsRef<[u8]>> Board<B> {
         self.0.as_ref()
     }
 
-    /// Can this board exist? It tells who runs.
+    /// Can this board exist? It tells who runs, or which rule is broken and where.
     ///
     /// # Errors
     /// [`WrongLength`](Refusal::WrongLength), [`RuleBroken`](Refusal::RuleBroken)

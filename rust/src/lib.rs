@@ -11,7 +11,7 @@
 //! `STATION_LIB_DIR` says in which folder.
 //!
 //! ```
-//! use station::{Board, Prio, Refusal, Status, TaskNo};
+//! use station::{Board, Prio, Refusal, Rule, Status, TaskNo};
 //!
 //! # fn main() -> Result<(), Refusal> {
 //! const LOGGER: TaskNo = TaskNo(1);
@@ -36,6 +36,12 @@
 //! // a call that cannot be done is refused, and the board is as it was
 //! assert_eq!(board.send(m, TaskNo(33)), Err(Refusal::NoSuchTask));
 //! board.release(m)?;
+//!
+//! // bytes that are no board are told with the rule that they break, and the task or message
+//! let mut bytes = board.into_bytes();
+//! bytes[4] |= Status::IWAT.0 | Status::INTQ.0;
+//! let told = Board::from_bytes(&bytes);
+//! assert_eq!(told, Err(Refusal::RuleBroken(Rule::R6(LOGGER))));
 //! # Ok(())
 //! # }
 //! ```
@@ -48,12 +54,14 @@ extern crate std;
 mod answer;
 mod board;
 mod numbers;
+mod rule;
 #[allow(unsafe_code)]
 mod sys;
 
 pub use answer::{Accepted, Answer, Refusal};
 pub use board::Board;
 pub use numbers::{MsgNo, Prio, Status, TaskNo};
+pub use rule::Rule;
 
 /// The bytes of a board.
 pub const BYTES: usize = 1476;

@@ -1,8 +1,8 @@
 //! The cases of the repository's `tests/cases` through the methods: what C and the proved program answer, this crate answers.
 //!
 //! A case is the length as a word, a call of nine bytes (kind, three words, STAT, PRIO; kind 0 checks the board, kind 254 makes it
-//! fresh) and the board. Its answer is a line: refusal, value, running, delivered, and each byte that has changed.
-use station::{Answer, Board, MsgNo, Prio, Status, TaskNo};
+//! fresh) and the board. Its answer is a line: refusal, value, running, delivered, rule, record, and each byte that has changed.
+use station::{Answer, Board, MsgNo, Prio, Refusal, Status, TaskNo};
 use std::{fmt::Write, path::Path, process::Command};
 
 /// A value as the library hands it over: 0 for none.
@@ -32,8 +32,9 @@ impl<T: Number> Number for Option<T> {
 
 fn told<T: Number>(answer: Answer<T>) -> String {
     match answer {
-        Ok(told) => format!("0 {} {} {}", told.value.number(), told.running.number(), told.delivered.number()),
-        Err(refusal) => format!("{} 0 0 0", refusal.number()),
+        Ok(told) => format!("0 {} {} {} 0 0", told.value.number(), told.running.number(), told.delivered.number()),
+        Err(Refusal::RuleBroken(rule)) => format!("2 0 0 0 {} {}", rule.number(), rule.record()),
+        Err(refusal) => format!("{} 0 0 0 0 0", refusal.number()),
     }
 }
 

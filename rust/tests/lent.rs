@@ -1,7 +1,7 @@
 //! Boards in lent bytes: of any length, in the middle of others, and of any content.
 mod common;
 use common::{tasks, EVERY_CALL};
-use station::{Board, Prio, Refusal, Status, TaskNo, BYTES};
+use station::{Board, Prio, Refusal, Rule, Status, TaskNo, BYTES};
 
 const GUARD: usize = 64;
 const MARK: u8 = 0xA5;
@@ -32,7 +32,7 @@ fn another_length_is_refused_by_every_call() {
 fn what_is_no_board_is_refused_and_can_be_made_fresh() {
     guarded(&[MARK; BYTES], |bytes| {
         for call in &EVERY_CALL[1..] {
-            assert_eq!(call(&mut Board::lent(&mut *bytes)), Err(Refusal::RuleBroken));
+            assert_eq!(call(&mut Board::lent(&mut *bytes)), Err(Refusal::RuleBroken(Rule::R1)));
         }
         assert_eq!(bytes, [MARK; BYTES]);
         Board::lent(&mut *bytes).make_fresh().unwrap();
@@ -68,8 +68,9 @@ fn bytes_become_a_board_if_they_are_one() {
     assert_eq!(Board::from_bytes(&board.as_bytes()[1..]), Err(Refusal::WrongLength));
     let mut broken = board.into_bytes();
     broken[0] = 0; // the task queue is empty, and tasks are present
-    assert_eq!(Board::from_bytes(&broken), Err(Refusal::RuleBroken));
-    assert_eq!(Board::lent(&broken[..]).check(), Err(Refusal::RuleBroken)); // a look needs no writing
+    assert_eq!(Board::from_bytes(&broken), Err(Refusal::RuleBroken(Rule::R3)));
+    assert_eq!(Board::lent(&broken[..]).check(), Err(Refusal::RuleBroken(Rule::R3)));
+    // a look needs no writing
 }
 
 #[test]
@@ -77,4 +78,5 @@ fn a_board_is_shown_by_who_runs() {
     assert_eq!(Board::default(), Board::fresh());
     assert_eq!(format!("{:?}", tasks(&[25])), "Board { bytes: 1476, running: Ok(Some(TaskNo(1))) }");
     assert_eq!(format!("{:?}", Board::lent([1; 2])), "Board { bytes: 2, running: Err(WrongLength) }");
+    assert_eq!(format!("{:?}", Board::lent([1; BYTES])), "Board { bytes: 1476, running: Err(RuleBroken(R1)) }");
 }

@@ -1,7 +1,7 @@
 //! Each refusal that can be given, and that it changes nothing.
 mod common;
 use common::{tasks, written};
-use station::{Board, MsgNo, Prio, Refusal, Status, TaskNo};
+use station::{Board, MsgNo, Prio, Refusal, Rule, Status, TaskNo};
 use Refusal::*;
 
 const LONE: TaskNo = TaskNo(1);
@@ -22,8 +22,8 @@ fn install(k: u16, stat: Status, prio: Prio) -> impl Fn(&mut Board) -> station::
 fn a_board_that_is_none() {
     let mut broken = tasks(&[25]).into_bytes();
     broken[1] = 1;
-    refused(&Board::lent(broken), RuleBroken, |b| b.claim());
-    refused(&Board::lent(broken), RuleBroken, |b| b.check());
+    refused(&Board::lent(broken), RuleBroken(Rule::R1), |b| b.claim());
+    refused(&Board::lent(broken), RuleBroken(Rule::R1), |b| b.check());
     let mut short = [0; 1475];
     assert_eq!(Board::lent(&mut short[..]).make_fresh(), Err(WrongLength));
 }
@@ -124,14 +124,67 @@ fn no_priority_above_127() {
     Prio::fifo(128);
 }
 
+/// A board with a message in the queue of each of two tasks, and what its check says of one byte changed.
+fn broken_by(place: usize, byte: u8) -> Option<Refusal> {
+    let mut board = tasks(&[25, 30]);
+    for k in [1, 2].map(TaskNo) {
+        let m = written(&mut board, Prio::fifo(9));
+        board.send(m, k).unwrap();
+    }
+    let mut bytes = board.into_bytes();
+    bytes[place] = byte;
+    Board::from_bytes(&bytes).err()
+}
+
+#[test]
+fn each_rule_with_its_record() {
+    let (task_2, message_1, message_2, message_128, place_128) = (14, 324, 332, 1340, 1475);
+    let waits = (Status::TCBB | Status::WAIT).0;
+    let due = (Status::TCBB | Status::MHBS).0;
+    assert_eq!(broken_by(task_2, Status::TCBB.0), None);
+    assert_eq!(broken_by(3, 1), Some(RuleBroken(Rule::R1)));
+    assert_eq!(broken_by(task_2, 0), Some(RuleBroken(Rule::R2(TaskNo(2)))));
+    assert_eq!(broken_by(4 + 10 * 31, 1), Some(RuleBroken(Rule::R2(TaskNo(32)))));
+    assert_eq!(broken_by(0, 2), Some(RuleBroken(Rule::R3)));
+    assert_eq!(broken_by(message_1 + 1, 0xFF), Some(RuleBroken(Rule::R4(MsgNo(1)))));
+    assert_eq!(broken_by(message_128, 1), Some(RuleBroken(Rule::R4(MsgNo(128)))));
+    assert_eq!(broken_by(place_128, 3), Some(RuleBroken(Rule::R4(MsgNo(128)))));
+    assert_eq!(broken_by(task_2 + 4, 0), Some(RuleBroken(Rule::R5(TaskNo(2)))));
+    assert_eq!(broken_by(message_2 + 2, 1), Some(RuleBroken(Rule::R5(TaskNo(2))))); // it shares a tail with task 1
+    assert_eq!(broken_by(task_2, waits), Some(RuleBroken(Rule::R6(TaskNo(2)))));
+    assert_eq!(broken_by(4, due), Some(RuleBroken(Rule::R7(LONE))));
+}
+
 #[test]
 fn numbers_and_words() {
-    for (number, refusal) in (1..).zip(Refusal::ALL) {
-        assert_eq!(refusal.number(), number);
-        assert_eq!(Refusal::from_number(number), Some(refusal));
+    for number in 1..=15 {
+        assert_eq!(Refusal::from_numbers(number, 4, 128).map(Refusal::number), Some(number));
     }
-    assert_eq!([0, 16, 255].map(Refusal::from_number), [None; 3]);
+    assert_eq!([0, 16, 255].map(|number| Refusal::from_numbers(number, 4, 128)), [None; 3]);
+    assert_eq!(Refusal::from_numbers(2, 4, 128), Some(RuleBroken(Rule::R4(MsgNo(128)))));
+    assert_eq!(Refusal::from_numbers(2, 4, 129), None);
     assert_eq!(NoSuchTask.to_string(), "there is no such task (refusal 6)");
+    let told = RuleBroken(Rule::R6(TaskNo(3))).to_string();
+    assert_eq!(told, "such a board cannot exist (refusal 2): rule 6: the status of task 3 does not go with its queue");
+}
+
+#[test]
+fn numbers_and_words_of_rules() {
+    for (rule, last) in [(1, 0), (2, 32), (3, 0), (4, 128), (5, 32), (6, 32), (7, 32)] {
+        let records = if last == 0 { 0..=0 } else { 1..=last };
+        for record in 0..=300 {
+            let told = Rule::from_numbers(rule, record);
+            assert_eq!(
+                told.map(|told| (told.number(), told.record())),
+                Some((rule, record)).filter(|_| records.contains(&record))
+            );
+            assert!(told.map_or(true, |told| told.to_string().starts_with(&format!("rule {rule}: "))));
+        }
+    }
+    assert_eq!([0, 8, 255].map(|rule| Rule::from_numbers(rule, 1)), [None; 3]);
+    assert!(Rule::R2(TaskNo(7)) < Rule::R4(MsgNo(1)) && Rule::R4(MsgNo(1)) < Rule::R4(MsgNo(2)));
+    let words = "the queue of task 3 does not visit exactly the messages placed there, in order of priority";
+    assert_eq!(Rule::R5(TaskNo(3)).to_string(), format!("rule 5: {words}"));
 }
 
 #[cfg(feature = "std")]
