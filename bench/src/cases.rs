@@ -1,5 +1,5 @@
 //! The boards and the calls that are timed.
-use model::board::{Board, BOARD_LEN};
+use model::board::{set_word, word, Board, MsgNo, Status, TaskNo, BOARD_LEN, MESSAGES, TASKS};
 use model::runner::history::History;
 use model::runner::random::Random;
 use model::{Answer, Call};
@@ -16,48 +16,76 @@ pub struct Case {
     pub boards: Vec<Board>,
     /// Which board comes when, in a batch of checks.
     pub turns: Vec<usize>,
+    /// The packed answer where it is refused, 0 where it is accepted.
+    pub refused: u64,
 }
 
 impl Case {
-    /// An error where the versions differ in an answer or a byte, or where the call is refused.
-    pub fn compare(&self, versions: &[Version]) -> Result<(), String> {
+    /// An error where the versions differ in an answer or a byte, or where the answer is not the one that is timed.
+    pub fn compare(&self, versions: &[Version], before: Option<Version>) -> Result<(), String> {
         for board in &self.boards {
-            let left = versions.iter().map(|version| {
+            let ask = |version: Version| {
                 let mut after = *board;
                 (version.ask(&mut after, &self.request), after)
-            });
-            let left: Vec<(u64, Board)> = left.collect();
-            if left[0].0 as u8 != 0 || left.iter().any(|other| *other != left[0]) {
-                return Err(format!("{}: refused, or the answers or the boards differ", self.name));
+            };
+            let told = ask(versions[0]);
+            let is_timed = if self.refused == 0 { told.0 as u8 == 0 } else { told.0 == self.refused };
+            let alike = versions.iter().all(|version| ask(*version) == told);
+            if !is_timed || !alike || before.is_some_and(|before| !is_as_before(told, ask(before))) {
+                return Err(format!("{}: not the answer that is timed, or the answers or the boards differ", self.name));
             }
         }
         Ok(())
     }
 }
 
+/// Whether a library of a landing before does the same; it may give 2 alone, without the rule and the record.
+fn is_as_before((told, after): (u64, Board), before: (u64, Board)) -> bool {
+    before == (if before.0 == 2 { told & 0xFF } else { told }, after)
+}
+
 /// All rows.
 pub fn all() -> Vec<Case> {
-    checks().into_iter().chain(calls()).collect()
+    checks().into_iter().chain(refused_checks()).chain(calls()).collect()
 }
 
 fn checks() -> [Case; 6] {
-    let of = |name, boards, turns| Case { name, request: request(0, [0; 3]), boards, turns };
-    let check = |name, board| of(name, vec![board], vec![0; 128]);
     let mut random = Random::new(7);
     let turns = (0..4096).map(|_| random.below(40)).collect();
     [
         check("check of a fresh board", [0; BOARD_LEN]),
         check("check, 3 tasks and 5 messages", sent(held(tasks(3), 5), 4, |_| 2)),
-        check("check, 32 queues of 4", sent(held(tasks(32), 128), 128, |m| 1 + m % 32)),
-        check("check, one queue of 128", sent(held(tasks(31), 128), 128, |_| 2)),
+        check("check, 32 queues of 4", queues_of_4()),
+        check("check, one queue of 128", queue_of_128()),
         check("check, last of 32 tasks runs", last_runs()),
-        of("check, 40 boards of histories by turns", histories(40), turns),
+        Case { boards: histories(40), turns, ..check("check, 40 boards of histories by turns", [0; BOARD_LEN]) },
+    ]
+}
+
+/// Checks of full boards with a fault that is late to be found.
+fn refused_checks() -> [Case; 7] {
+    let last = TaskNo::new(TASKS).expect("a task");
+    let of_4 = |name, rule, record, fault: &dyn Fn(&mut Board)| refused(name, rule, record, queues_of_4(), fault);
+    let cut_short = |b: &mut Board| set_word(b, message(word(b, last.queue_slot())).link_slot(), 0);
+    let leads_back = |b: &mut Board| set_word(b, message(MESSAGES).link_slot(), 1);
+    let last_runs_and_is_due = |b: &mut Board| {
+        TaskNo::all().for_each(|k| b[k.at()] |= Status::IWAT);
+        b[last.at()] = Status::TCBB | Status::MHBS;
+    };
+    [
+        of_4("check, refused: R2 at the last of 32 tasks", 2, TASKS, &|b| b[last.prio_at()] = 0xFF),
+        of_4("check, refused: R3, the last of 32 tasks leads back", 3, 0, &|b| set_word(b, last.link_slot(), 1)),
+        of_4("check, refused: R4 at the last of 128 messages", 4, MESSAGES, &|b| b[message(MESSAGES).rptr_at()] = 33),
+        of_4("check, refused: R5 at the last of 32 queues of 4", 5, TASKS, &cut_short),
+        refused("check, refused: R5, the queue of 128 leads back", 5, 2, queue_of_128(), &leads_back),
+        of_4("check, refused: R6 at the last of 32 tasks", 6, TASKS, &|b| b[last.at()] |= Status::WAIT),
+        of_4("check, refused: R7, the last of 32 tasks runs", 7, TASKS, &last_runs_and_is_due),
     ]
 }
 
 /// Calls on boards with 31 tasks or 32. A queue grows to the length that is told, or is that long before it is taken from.
 fn calls() -> [Case; 8] {
-    let call = |name, board, kind, words| Case { name, request: request(kind, words), boards: vec![board], turns: Vec::new() };
+    let call = |name, board, kind, words| Case { request: request(kind, words), ..check(name, board) };
     let held = |count| held(tasks(31), count);
     [
         call("claim, one block free", held(127), 5, [0; 3]),
@@ -69,6 +97,16 @@ fn calls() -> [Case; 8] {
         call("install beside 31 tasks", tasks(31), 1, [32, 0, 7]),
         call("find, last of 31", tasks(31), 3, [31, 0, 0]),
     ]
+}
+
+fn check(name: &'static str, board: Board) -> Case {
+    Case { name, request: request(0, [0; 3]), boards: vec![board], turns: vec![0; 128], refused: 0 }
+}
+
+/// The check of a board with a fault, which is named by this rule and this record.
+fn refused(name: &'static str, rule: u64, record: u16, mut board: Board, fault: &dyn Fn(&mut Board)) -> Case {
+    fault(&mut board);
+    Case { refused: 2 | rule << 8 | u64::from(record) << 16, ..check(name, board) }
 }
 
 fn request(kind: u8, words: [u16; 3]) -> Request {
@@ -116,6 +154,18 @@ fn sent(mut board: Board, count: u16, to: impl Fn(u16) -> u16) -> Board {
         made(&mut board, Call::Send { message: m, receiver: to(m) });
     }
     board
+}
+
+fn queues_of_4() -> Board {
+    sent(held(tasks(32), 128), 128, |m| 1 + m % 32)
+}
+
+fn queue_of_128() -> Board {
+    sent(held(tasks(31), 128), 128, |_| 2)
+}
+
+fn message(number: u16) -> MsgNo {
+    MsgNo::new(number).expect("a message")
 }
 
 /// Boards as random calls leave them, with few tasks and messages or many.

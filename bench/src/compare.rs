@@ -7,8 +7,8 @@ use crate::version::{Request, Version, PLAIN};
 /// How many cases of a kind were met.
 #[derive(Default)]
 pub struct Seen {
-    /// Boards that the check refuses.
-    pub damaged: usize,
+    /// Boards that the check refuses, by the rule that it names.
+    pub rules: [usize; 8],
     /// Calls by the number of the refusal, 0 for those accepted.
     pub refusals: [usize; 32],
     /// Accepted calls by kind.
@@ -22,7 +22,9 @@ pub fn on_cases(seed: u64, count: usize, version: Version) -> Result<Seen, Strin
         let asked = case.request;
         let differs = |what: &str| Err(format!("seed {seed}, case {number}, {}: the {what} differs", asked.in_words()));
         let checked = PLAIN.check(&case.board);
-        seen.damaged += usize::from(checked == 2);
+        if checked as u8 == 2 {
+            seen.rules[(checked >> 8) as usize & 7] += 1;
+        }
         if version.check(&case.board) != checked {
             return differs("check");
         }

@@ -8,18 +8,21 @@
 //! * The check hands on what it has found: who runs, who is present, the last task, and the last message of each queue. A call
 //!   starts from there, and dispatch looks for the running task only where the call can have changed it.
 //!
-//! So the rules are no longer apart, as the definitions and the proved code have them.
+//! So the rules are no longer apart, as the definitions and the proved code have them. Which one is broken, and where, is found by
+//! a second look, on refused boards only.
 
 mod calls;
 mod check;
+mod named;
 
 use model::board::{Board, MESSAGES_AT, MESSAGE_LEN, PLACES_AT, TASKS_AT, TASK_LEN};
 
-/// The check of a board: refusal, value, running and delivered, packed as the C interface does.
+/// The check of a board; the answer is packed as the C interface does.
 #[inline(never)]
 pub fn check(bytes: &[u8]) -> u64 {
     let Ok(b) = <&Board>::try_from(bytes) else { return 1 };
-    check::examine(b).map_or(2, |found| accepted(0, found.running, 0))
+    let Some(found) = check::examine(b) else { return named::refused(b) };
+    accepted(0, found.running, 0)
 }
 
 /// A call by its kind, with its words in the paper's order; the answer is packed as the C interface does.
@@ -29,7 +32,7 @@ pub fn call(bytes: &mut [u8], kind: u8, words: [u16; 3], stat: u8, prio: u8) -> 
         return 255;
     }
     let Ok(b) = <&mut Board>::try_from(bytes) else { return 1 };
-    let Some(found) = check::examine(b) else { return 2 };
+    let Some(found) = check::examine(b) else { return named::refused(b) };
     calls::call(b, &found, kind, words, stat, prio)
 }
 

@@ -97,7 +97,10 @@ fn plain_call(board: &mut [u8], kind: u8, [a, b, c]: [u16; 3], stat: u8, prio: u
 
 fn packed(answer: Answer) -> u64 {
     match answer {
-        Answer::Refused(refusal) => refusal.number().into(),
+        Answer::Refused(refusal) => {
+            let (rule, record) = refusal.rule().map_or((0, 0), |rule| (rule.number(), rule.record()));
+            u64::from(refusal.number()) | u64::from(rule) << 8 | u64::from(record) << 16
+        }
         Answer::Accepted { value, running, delivered } => {
             u64::from(value) << 8 | u64::from(running) << 24 | u64::from(delivered) << 40
         }

@@ -1,5 +1,6 @@
 //! The tuned version is document 01 too: it answers as the model does and leaves the same bytes.
 use bench::compare::{on_cases, Seen};
+use bench::tuned;
 use bench::version::{Request, Version, TUNED};
 
 #[test]
@@ -7,11 +8,11 @@ fn tuned_and_model_agree() {
     let mut all = Seen::default();
     for seed in 1001..=1050 {
         let seen = on_cases(seed, 2000, TUNED).unwrap();
-        all.damaged += seen.damaged;
+        (0..8).for_each(|i| all.rules[i] += seen.rules[i]);
         (0..32).for_each(|i| all.refusals[i] += seen.refusals[i]);
         (0..32).for_each(|i| all.accepted[i] += seen.accepted[i]);
     }
-    assert!(all.damaged > 5000, "{} damaged boards", all.damaged);
+    assert!((1..=7).all(|rule| all.rules[rule] > 300), "broken rules {:?}", all.rules);
     assert!((0..=14).all(|refusal| all.refusals[refusal] > 0), "refusals {:?}", all.refusals);
     assert!((1..=19).all(|kind| all.accepted[kind] > 0), "accepted {:?}", all.accepted);
 }
@@ -27,6 +28,16 @@ fn a_version_that_errs_is_noticed() {
         }
         told
     };
-    let erring = [Version::Rust(|_| 0, |_, _, _, _, _| 0), Version::Rust(check, call)];
+    let no_rule = |board: &[u8]| if TUNED.check(board) as u8 == 2 { 2 } else { TUNED.check(board) };
+    let record_with_r3 = |board: &mut [u8], kind, words, stat, prio| {
+        let told = TUNED.call(board, &Request { kind, words, stat, prio });
+        told | u64::from(told == 0x0302) << 16
+    };
+    let erring = [
+        Version::Rust(|_| 0, |_, _, _, _, _| 0),
+        Version::Rust(check, call),
+        Version::Rust(no_rule, tuned::call),
+        Version::Rust(tuned::check, record_with_r3),
+    ];
     assert!(erring.into_iter().all(|version| (1001..=1003).any(|seed| on_cases(seed, 2000, version).is_err())));
 }

@@ -1,7 +1,7 @@
 //! The rules R1 to R7, and who runs. Every record is read once, and once more where a queue leads to it.
 
 use crate::answer::{Answer, Refusal, Rule};
-use crate::board::{word, Board, MsgNo, Status, TaskNo, MESSAGE_LEN, PLACES_AT, TASKS, TASK_LEN, TASK_QUEUE};
+use crate::board::{word, Board, MsgNo, Status, TaskNo, MESSAGE_LEN, TASKS, TASK_LEN, TASK_QUEUE};
 
 /// Checks a board: refused with 1, or with 2 and the broken rule, or accepted with the running task.
 pub fn check(b: &[u8]) -> Answer {
@@ -16,15 +16,16 @@ pub fn check(b: &[u8]) -> Answer {
 
 /// Who runs on a good board; else the lowest rule that is broken, with the smallest task or message that breaks it.
 pub(crate) fn examine(b: &Board) -> Result<Option<TaskNo>, Rule> {
-    keeps(first_bytes_are_good(b), Rule::R1)?;
-    none(bad_tasks(b), Rule::R2)?;
+    keeps(b[1..4] == [0; 3], Rule::R1)?;
+    each_keeps(TaskNo::all(), |k| task_is_good(b, k), Rule::R2)?;
     keeps(task_queue_is_good(b), Rule::R3)?;
-    none(bad_messages(b), Rule::R4)?;
-    none(bad_queues(b), Rule::R5)?;
-    none(bad_states(b), Rule::R6)?;
-    let running = running(b);
-    none(running.into_iter().filter(|c| c.status(b).has(Status::MHBS)), Rule::R7)?;
-    Ok(running)
+    let queued = queued_messages(b)?;
+    each_keeps(present(b), |k| queue_is_good(b, k, queued[usize::from(k.number())]), Rule::R5)?;
+    each_keeps(present(b), |k| status_fits(b, k), Rule::R6)?;
+    match running(b) {
+        Some(c) if c.status(b).has(Status::MHBS) => Err(Rule::R7(c)),
+        running => Ok(running),
+    }
 }
 
 fn keeps(good: bool, rule: Rule) -> Result<(), Rule> {
@@ -35,9 +36,9 @@ fn keeps(good: bool, rule: Rule) -> Result<(), Rule> {
     }
 }
 
-/// A rule for each task or message: those that break it come by number, and the first is named.
-fn none<N>(mut bad: impl Iterator<Item = N>, rule: fn(N) -> Rule) -> Result<(), Rule> {
-    bad.next().map_or(Ok(()), |first| Err(rule(first)))
+/// A rule for each task or message, which come by number: the first that breaks it is named.
+fn each_keeps<N: Copy>(mut all: impl Iterator<Item = N>, is_good: impl Fn(N) -> bool, rule: fn(N) -> Rule) -> Result<(), Rule> {
+    all.find(|one| !is_good(*one)).map_or(Ok(()), |bad| Err(rule(bad)))
 }
 
 /// The present tasks, on a board that keeps R2.
@@ -57,17 +58,9 @@ pub(crate) fn running(b: &Board) -> Option<TaskNo> {
     }
 }
 
-/// R1.
-pub(crate) fn first_bytes_are_good(b: &Board) -> bool {
-    b[1..4] == [0; 3]
-}
-
-/// The tasks that break R2.
-pub(crate) fn bad_tasks(b: &Board) -> impl Iterator<Item = TaskNo> + '_ {
-    TaskNo::all().filter(|k| !task_record_is_good(&b[k.at()..k.at() + TASK_LEN]))
-}
-
-fn task_record_is_good(record: &[u8]) -> bool {
+/// R2 for one task.
+pub(crate) fn task_is_good(b: &Board, k: TaskNo) -> bool {
+    let record = &b[k.at()..k.at() + TASK_LEN];
     let (status, prio) = (record[0], record[1]);
     let good_status = status & (Status::TCBB | Status::SPARE) == Status::TCBB;
     let good_prio = prio & 1 == 1 && (0x03..=0xFD).contains(&prio);
@@ -91,47 +84,37 @@ pub(crate) fn task_queue_is_good(b: &Board) -> bool {
     link == 0
 }
 
-/// The messages that break R4.
-pub(crate) fn bad_messages(b: &Board) -> impl Iterator<Item = MsgNo> + '_ {
-    MsgNo::all().filter(|m| !message_is_good(b, *m))
-}
-
-fn message_is_good(b: &Board, m: MsgNo) -> bool {
-    let place = m.place(b);
-    if place == 0 {
-        return b[m.at()..m.at() + MESSAGE_LEN].iter().all(|&byte| byte == 0);
+/// R4: how many messages are queued at each task.
+pub(crate) fn queued_messages(b: &Board) -> Result<[u8; TASKS as usize + 1], Rule> {
+    let mut queued = [0; TASKS as usize + 1];
+    for m in MsgNo::all() {
+        let place = m.place(b);
+        if place == 0 {
+            keeps(b[m.at()..m.at() + MESSAGE_LEN].iter().all(|&byte| byte == 0), Rule::R4(m))?;
+            continue;
+        }
+        let is_queued = place >= 64;
+        let owner = TaskNo::new(if is_queued { u16::from(place) - 64 } else { place.into() });
+        let Some(k) = owner.filter(|k| k.is_present(b)) else { return Err(Rule::R4(m)) };
+        keeps(used_record_is_good(b, m, is_queued), Rule::R4(m))?;
+        queued[usize::from(k.number())] += u8::from(is_queued);
     }
-    let is_queued = place >= 64;
-    let owner = TaskNo::new(if is_queued { u16::from(place) - 64 } else { place.into() });
-    owner.is_some_and(|k| k.is_present(b)) && used_record_is_good(b, m, is_queued)
+    Ok(queued)
 }
 
-/// The record of a message that is not free.
+/// R4 for a message that is not free.
 fn used_record_is_good(b: &Board, m: MsgNo, is_queued: bool) -> bool {
     let prio = b[m.prio_at()];
     let own = if is_queued { prio & 1 == 1 && prio != 0xFF } else { word(b, m.link_slot()) == 0 };
     own && word(b, m.rptr_at()) <= TASKS && word(b, m.sptr_at()) <= TASKS
 }
 
-/// The tasks that break R5, on a board that keeps R2 and R4: an absent one has neither MPTR nor a message placed there.
-pub(crate) fn bad_queues(b: &Board) -> impl Iterator<Item = TaskNo> + '_ {
-    let placed = placed(b);
-    present(b).filter(move |k| !message_queue_is_good(b, *k, placed[usize::from(k.queued_place())]))
-}
-
-/// How many messages have each place.
-fn placed(b: &Board) -> [u8; 256] {
-    let mut placed = [0; 256];
-    b[PLACES_AT..].iter().for_each(|&place| placed[usize::from(place)] += 1);
-    placed
-}
-
-/// The queue of task k, with so many messages placed in it; each is met once for the reason given at the task queue. The limit
+/// R5 for one task, at which so many messages are queued; each is met once for the reason given at the task queue. The limit
 /// of a walk, 128 links, never shows: there are no more messages.
-fn message_queue_is_good(b: &Board, k: TaskNo, placed: u8) -> bool {
+pub(crate) fn queue_is_good(b: &Board, k: TaskNo, queued: u8) -> bool {
     let mut link = word(b, k.queue_slot());
     let mut least = 0;
-    for _ in 0..placed {
+    for _ in 0..queued {
         let Some(m) = MsgNo::new(link) else { return false };
         let prio = b[m.prio_at()];
         if m.place(b) != k.queued_place() || prio < least {
@@ -143,12 +126,9 @@ fn message_queue_is_good(b: &Board, k: TaskNo, placed: u8) -> bool {
     link == 0
 }
 
-/// The tasks that break R6, on a board that keeps R5.
-pub(crate) fn bad_states(b: &Board) -> impl Iterator<Item = TaskNo> + '_ {
-    present(b).filter(|k| !status_fits(k.status(b), word(b, k.queue_slot()) == 0))
-}
-
-fn status_fits(s: Status, queue_is_empty: bool) -> bool {
+/// R6 for one task.
+pub(crate) fn status_fits(b: &Board, k: TaskNo) -> bool {
+    let (s, queue_is_empty) = (k.status(b), word(b, k.queue_slot()) == 0);
     let wait_fits = !s.has(Status::WAIT) || (queue_is_empty && !s.has(Status::MHBS | Status::IWAT));
     let iwat_fits = !s.has(Status::IWAT) || !s.has(Status::INTQ | Status::MHBS);
     let mhbs_fits = !s.has(Status::MHBS) || !queue_is_empty;

@@ -16,11 +16,11 @@ pub struct Found {
 }
 
 /// A message record as one number: LINK, and bits that RPTR and SPTR have only above 63.
-const LINK: u64 = 0x0000_0000_FFFF_0000;
-const FAR: u64 = 0xFFC0_FFC0_0000_0000;
+pub const LINK: u64 = 0x0000_0000_FFFF_0000;
+pub const FAR: u64 = 0xFFC0_FFC0_0000_0000;
 /// Added to RPTR and SPTR up to 63, `BEYOND` tells those above 32. Where one is above 63, `FAR` says so, whatever the sum carries.
-const REACH: u64 = 0x001F_001F_0000_0000;
-const BEYOND: u64 = 0x0040_0040_0000_0000;
+pub const REACH: u64 = 0x001F_001F_0000_0000;
+pub const BEYOND: u64 = 0x0040_0040_0000_0000;
 /// One in each of eight bytes.
 const EACH: u64 = 0x0101_0101_0101_0101;
 /// Tasks that wait, for whatever, or are due a message.

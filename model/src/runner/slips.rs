@@ -1,11 +1,9 @@
 //! Answers with a known slip in them, made from the model's by changing the reply afterwards. They test the differential run:
 //! it must notice every one.
 
-use std::cmp::Reverse;
-
 use super::case::{Case, Reply, CHECK};
-use crate::board::{set_word, word, Board, MsgNo, Status, TaskNo, MESSAGES};
-use crate::check::{bad_messages, bad_queues, bad_states, bad_tasks, first_bytes_are_good, running, task_queue_is_good};
+use crate::board::{set_word, word, Board, MsgNo, Status, TaskNo, MESSAGES, MESSAGE_LEN};
+use crate::check::{queue_is_good, queued_messages, running, status_fits, task_is_good, task_queue_is_good};
 use crate::{check, Answer, Refusal, Rule};
 
 /// The slips of document 01 that look right, and slips in naming a broken rule.
@@ -69,10 +67,9 @@ impl Slip {
 
     /// Another rule or record in place of the right one, where the slip shows.
     fn misname(self, b: &Board, rule: Rule) -> Rule {
-        let all = || all_broken(b).into_iter();
         let misnamed = match (self, rule) {
-            (Slip::HighestRule, _) => all().max_by_key(|other| (other.number(), Reverse(other.record()))),
-            (Slip::LargestRecord, _) => all().rev().find(|other| other.number() == rule.number()),
+            (Slip::HighestRule, _) => highest(b),
+            (Slip::LargestRecord, _) => largest(b, rule),
             (Slip::StrayedMessagesTask, Rule::R5(k)) => strayed_to(b, k).map(Rule::R5),
             (Slip::R7BeforeR6, Rule::R6(_)) => running(b).filter(|c| c.status(b).has(Status::MHBS)).map(Rule::R7),
             _ => None,
@@ -111,18 +108,41 @@ fn hand(b: &mut Board, m: MsgNo, r: TaskNo) {
     b[m.place_at()] = r.held_place();
 }
 
-/// Each rule that is broken at each record, by rule and then by record. R6 is judged on boards that keep the others.
-fn all_broken(b: &Board) -> Vec<Rule> {
-    let mut all = Vec::new();
-    all.extend((!first_bytes_are_good(b)).then_some(Rule::R1));
-    all.extend(bad_tasks(b).map(Rule::R2));
-    all.extend((!task_queue_is_good(b)).then_some(Rule::R3));
-    all.extend(bad_messages(b).map(Rule::R4));
-    all.extend(bad_queues(b).map(Rule::R5));
-    if all.is_empty() {
-        all.extend(bad_states(b).map(Rule::R6));
+/// Whether R5 holds of a task, on whatever board.
+fn queue_holds(b: &Board, k: TaskNo) -> bool {
+    let queued = MsgNo::all().filter(|m| m.place(b) == k.queued_place()).count();
+    queue_is_good(b, k, queued as u8)
+}
+
+/// The highest of R2 to R5 that is broken.
+fn highest(b: &Board) -> Option<Rule> {
+    let rule2 = || TaskNo::all().find(|k| !task_is_good(b, *k)).map(Rule::R2);
+    let rule3 = || (!task_queue_is_good(b)).then_some(Rule::R3);
+    let rule4 = || queued_messages(b).err();
+    let rule5 = || TaskNo::all().find(|k| !queue_holds(b, *k)).map(Rule::R5);
+    rule5().or_else(rule4).or_else(rule3).or_else(rule2)
+}
+
+/// The same rule at the largest record that breaks it.
+fn largest(b: &Board, rule: Rule) -> Option<Rule> {
+    let last_task = |is_good: fn(&Board, TaskNo) -> bool| TaskNo::all().filter(|k| !is_good(b, *k)).last();
+    match rule {
+        Rule::R2(_) => last_task(task_is_good).map(Rule::R2),
+        Rule::R4(_) => MsgNo::all().filter(|m| queued_messages(&with_alone(b, *m)).is_err()).last().map(Rule::R4),
+        Rule::R5(_) => last_task(queue_holds).map(Rule::R5),
+        Rule::R6(_) => last_task(status_fits).map(Rule::R6),
+        Rule::R1 | Rule::R3 | Rule::R7(_) => None,
     }
-    all
+}
+
+/// The board with all messages but one freed.
+fn with_alone(b: &Board, m: MsgNo) -> Board {
+    let mut alone = *b;
+    for other in MsgNo::all().filter(|other| *other != m) {
+        alone[other.at()..other.at() + MESSAGE_LEN].fill(0);
+        alone[other.place_at()] = 0;
+    }
+    alone
 }
 
 /// The task in whose queue the first message that a walk should not meet is placed.
