@@ -116,12 +116,12 @@ static inline const char *station_rule(uint8_t rule)
 {
     switch (rule) {
     case 1: return "bytes 1 to 3 are not zero";
-    case 2: return "the record of a task is neither zero nor good";
-    case 3: return "the task queue does not visit every present task once, in order of priority";
+    case 2: return "the record of a task is neither zero nor that of a task (STAT and PRIO)";
+    case 3: return "the task queue does not visit exactly the present tasks, in order of priority";
     case 4: return "the record of a message does not go with its place";
     case 5: return "the queue of a task does not visit exactly the messages placed there, in order of priority";
-    case 6: return "the status of a task does not go with its queue";
-    case 7: return "the running task is still due a message";
+    case 6: return "WAIT, IWAT, INTQ and MHBS of a task do not go together, or not with its queue";
+    case 7: return "the running task is still due a message (MHBS)";
     default: return "no rule has that number";
     }
 }

@@ -8,17 +8,17 @@ use core::fmt;
 pub enum Rule {
     /// bytes 1 to 3 are not zero
     R1,
-    /// the record of the task is neither zero nor good
+    /// the record of the task is neither zero nor that of a task (STAT and PRIO)
     R2(TaskNo),
-    /// the task queue does not visit every present task once, in order of priority
+    /// the task queue does not visit exactly the present tasks, in order of priority
     R3,
     /// the record of the message does not go with its place
     R4(MsgNo),
     /// the queue of the task does not visit exactly the messages placed there, in order of priority
     R5(TaskNo),
-    /// the status of the task does not go with its queue
+    /// WAIT, IWAT, INTQ and MHBS of the task do not go together, or not with its queue
     R6(TaskNo),
-    /// the running task is still due a message
+    /// the running task is still due a message (MHBS)
     R7(TaskNo),
 }
 
@@ -65,14 +65,14 @@ impl fmt::Display for Rule {
         write!(f, "rule {}: ", self.number())?;
         match self {
             Rule::R1 => write!(f, "bytes 1 to 3 are not zero"),
-            Rule::R2(k) => write!(f, "the record of task {} is neither zero nor good", k.0),
-            Rule::R3 => write!(f, "the task queue does not visit every present task once, in order of priority"),
+            Rule::R2(k) => write!(f, "the record of task {} is neither zero nor that of a task (STAT and PRIO)", k.0),
+            Rule::R3 => write!(f, "the task queue does not visit exactly the present tasks, in order of priority"),
             Rule::R4(m) => write!(f, "the record of message {} does not go with its place", m.0),
             Rule::R5(k) => {
                 write!(f, "the queue of task {} does not visit exactly the messages placed there, in order of priority", k.0)
             }
-            Rule::R6(k) => write!(f, "the status of task {} does not go with its queue", k.0),
-            Rule::R7(k) => write!(f, "the running task, {}, is still due a message", k.0),
+            Rule::R6(k) => write!(f, "WAIT, IWAT, INTQ and MHBS of task {} do not go together, or not with its queue", k.0),
+            Rule::R7(k) => write!(f, "the running task {} is still due a message (MHBS)", k.0),
         }
     }
 }

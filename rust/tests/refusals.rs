@@ -164,8 +164,8 @@ fn numbers_and_words() {
     assert_eq!(Refusal::from_numbers(2, 4, 128), Some(RuleBroken(Rule::R4(MsgNo(128)))));
     assert_eq!(Refusal::from_numbers(2, 4, 129), None);
     assert_eq!(NoSuchTask.to_string(), "there is no such task (refusal 6)");
-    let told = RuleBroken(Rule::R6(TaskNo(3))).to_string();
-    assert_eq!(told, "such a board cannot exist (refusal 2): rule 6: the status of task 3 does not go with its queue");
+    let told = RuleBroken(Rule::R4(MsgNo(3))).to_string();
+    assert_eq!(told, "such a board cannot exist (refusal 2): rule 4: the record of message 3 does not go with its place");
 }
 
 #[test]
