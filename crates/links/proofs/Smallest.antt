@@ -71,3 +71,10 @@ module _ (f : ℕ → Bool) where
       go : (i : ℕ) → each f i ≡ true → smallestFailing f n ≡ i + 1 → (t : Bool) → leb k i ≡ t → smallestFailing f n ≤ k
       go i p q true d = absurd (true≢false (sym (each-at f i p k h (leb-true k i d)) ∙ g))
       go i p q false d = let j = leb-false k i d in omega arith
+
+  -- and it stays the smallest behind one more number
+  pub smallest-stays : (n : ℕ) → each f n ≡ false → smallestFailing f (n + 1) ≡ smallestFailing f n
+  smallest-stays n e =
+      let r = first-failing n e in
+      let i : r .before < n + 1 = omega (arith, r .below) in
+      smallest-is (n + 1) (r .before) i (r .pass) (r .fails) ∙ sym (smallest-is n (r .before) (r .below) (r .pass) (r .fails))

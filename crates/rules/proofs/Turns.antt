@@ -1,20 +1,27 @@
--- The rules that ask each record by itself: bytes 1 to 3, and what each turn of a loop over the numbers makes of the definition, with a
--- hypothesis for each test and each callee's contract.
+-- The rules that ask each record by itself: bytes 1 to 3, and what a look at every record tells, turn by turn.
 -- Assumes nothing.
-use mathlib.Core.Path.{_≡_, refl, sym, ap, _∙_}
-use mathlib.Core.Bool.{Bool, true, false, not, _&&_, true≢false}
+use mathlib.Core.Path.{_≡_, refl, sym, ap, ap₂, _∙_}
+use mathlib.Core.Bool.{Bool, true, false, cond, _&&_}
 use mathlib.Core.Bool as bool
 use mathlib.Core.List.{List, [], _∷_}
-use Prim.Native.Nat.{ℕ, zero, suc, _+_, _<_}
+use Prim.Native.Nat.{ℕ, zero, suc, _+_, _≤_, _<_}
 use native.Mathlib.Omega.{arith}
 use lib.Dec.{eqb}
 use lib.ListN.{getD, take, drop}
-use borrow.Author.Tests.{not-true, not-false}
-use Rattle.links.specs.Queue.{each}
-use Rattle.links.proofs.Bools.{and-true, each-at}
-use Rattle.paper.specs.Rules.{allZero}
-use Rattle.rules.specs.declared.records.Survey.the-variants as survey
-use Rattle.rules.specs.Checked.{surveyed}
+use Rattle.links.specs.Queue.{each, orElse, smallestFailing}
+use Rattle.links.proofs.Bools.{each-next, each-fails}
+use Rattle.links.proofs.Smallest.{smallest-none, smallest-is, smallest-one, smallest-stays}
+use Rattle.board.specs.declared.numbers.Size.{Size}
+use Rattle.board.specs.declared.numbers.TaskMeant.{TaskMeant}
+use Rattle.board.specs.declared.numbers.TaskMeant.the-variants.{Task, NoTask}
+use Rattle.board.specs.declared.numbers.MessageMeant.the-variants.{NoMessage}
+use Rattle.board.specs.Numbers.{outside, taskNo, taskMeant, messageMeant}
+use Rattle.board.specs.Board.{Board}
+use Rattle.board.proofs.Pieces.{within-outside}
+use Rattle.paper.specs.Rules.{present, allZero, rule2At, rule4At, rule6At}
+use Rattle.queue_rules.specs.Walks.{counted, queued, breaking}
+use Rattle.queue_rules.proofs.Breaking.{breaking-is}
+use Rattle.rules.specs.Checked.{messagesOf, messagesIf, messagesSeen, tasksOf, tasksIf, tasksSeen, earlier}
 
 -- ---- bytes 1 to 3
 -- they are read one by one, as 0 past the end
@@ -26,41 +33,57 @@ zeros-read (x ∷ y ∷ []) = refl
 zeros-read (x ∷ y ∷ u ∷ []) = refl
 zeros-read (x ∷ y ∷ u ∷ v ∷ l) = ap (λ (t : Bool). eqb y 0 && (eqb u 0 && t)) (bool.and-true (eqb v 0))
 
--- ---- each number passes: R2, R4, R6, where t is what the code answers for the next number
-module _ (f : ℕ → Bool) where
-  -- it passes too
-  pub each-next : (k : ℕ) (t : Bool) → t ≡ f (k + 1) → not t ≡ false → each f k ≡ true → each f (k + 1) ≡ true
-  each-next k t e n h =
-      let s : k + 1 ≡ suc k = omega arith in
-      ap (each f) s ∙ and-true (each f k) (f (suc k)) h (ap f (sym s) ∙ sym e ∙ not-false t n)
+-- ---- a look at every message
+module _ (z : Size) (b : Board) where
+  -- each up to m is good, and the next is not
+  pub messages-fail : (m : ℕ) → m < z .messages → each (rule4At z b) m ≡ true → rule4At z b (m + 1) ≡ false
+      → messagesOf (messageMeant z (m + 1)) 0 ≡ messagesSeen z b
+  messages-fail m h e g =
+      ap (λ (n : ℕ). messagesOf (messageMeant z n) 0) (sym (smallest-is (rule4At z b) (z .messages) m h e g))
+      ∙ ap (messagesIf z b) (sym (each-fails (rule4At z b) (z .messages) (m + 1) (omega arith) (omega arith) g))
 
-  -- it fails, so they do not all pass
-  pub each-fails : (n k : ℕ) (t : Bool) → k < n → t ≡ f (k + 1) → not t ≡ true → false ≡ each f n
-  each-fails n k t h e q = go (each f n) refl
+  pub messages-good : (n : ℕ) → each (rule4At z b) (z .messages) ≡ true → n ≡ counted (queued b) (z .messages)
+      → messagesOf NoMessage n ≡ messagesSeen z b
+  messages-good n e q = ap (messagesOf NoMessage) q ∙ ap (messagesIf z b) (sym e)
+
+  -- ---- a look at every task
+  pub tasks-fail : (k : ℕ) → k < z .tasks → each (rule2At b) k ≡ true → rule2At b (k + 1) ≡ false
+      → tasksOf (taskMeant z (k + 1)) NoTask 0 ≡ tasksSeen z b
+  tasks-fail k h e g =
+      ap (λ (t : TaskMeant). tasksOf t NoTask 0) (breaking-is z (rule2At b) k h e g)
+      ∙ ap (tasksIf z b) (sym (each-fails (rule2At b) (z .tasks) (k + 1) (omega arith) (omega arith) g))
+
+  pub tasks-good : (t : TaskMeant) (n : ℕ) → each (rule2At b) (z .tasks) ≡ true → t ≡ breaking z (rule6At b)
+      → n ≡ counted (present b) (z .tasks) → tasksOf NoTask t n ≡ tasksSeen z b
+  tasks-good t n e r q = ap₂ (tasksOf NoTask) r q ∙ ap (tasksIf z b) (sym e)
+
+-- ---- the first task that fails a test, behind one more number
+module _ (z : Size) (f : ℕ → Bool) (k : ℕ) (h : k < z .tasks) where
+  abbrev so : ℕ → TaskMeant
+  so n = taskMeant z (smallestFailing f n)
+
+  -- one that is there stays the first
+  stays : (x : ℕ) → 1 ≤ x → x ≤ k → (t : Bool) → cond t (taskMeant z x) (earlier (taskMeant z x) (taskMeant z (k + 1))) ≡ taskMeant z x
+  stays x i j t = go t (outside (z .tasks) x) (within-outside (z .tasks) x i (omega arith))
     where
-      go : (s : Bool) → each f n ≡ s → false ≡ s
-      go true r = absurd (true≢false (sym (each-at f n r (k + 1) (omega arith) (omega arith)) ∙ sym e ∙ not-true t q))
-      go false r = refl
+      go : (t u : Bool) → u ≡ false
+          → cond t (cond u NoTask (Task (taskNo x))) (earlier (cond u NoTask (Task (taskNo x))) (taskMeant z (k + 1)))
+          ≡ cond u NoTask (Task (taskNo x))
+      go true u e = refl
+      go false u e = rw e
 
-  -- it was the last
-  pub each-done : (n k : ℕ) → k ≡ n → each f k ≡ true → true ≡ each f n
-  each-done n k e h = sym h ∙ ap (each f) e
-
--- two tests asked together of every number
-pub each-both : (f g : ℕ → Bool) (n : ℕ) → each (λ k. f k && g k) n ≡ each f n && each g n
-each-both f g zero = refl
-each-both f g (suc n) = ap (λ (t : Bool). t && (f (suc n) && g (suc n))) (each-both f g n) ∙ swap (each f n) (each g n) (f (suc n)) (g (suc n))
-  where
-    swap : (s t u v : Bool) → s && t && (u && v) ≡ s && u && (t && v)
-    swap true true u v = refl
-    swap true false true v = refl
-    swap true false false v = refl
-    swap false t u v = refl
-
--- ---- a survey: t is the rule, n how many are there
-module _ (t : Bool) (n : ℕ) where
-  pub survey-fails : false ≡ t → survey.Broken ≡ surveyed t n
-  survey-fails e = ap (λ (s : Bool). surveyed s n) e
-
-  pub survey-done : {k : ℕ} → true ≡ t → k ≡ n → survey.Good k ≡ surveyed t n
-  survey-done e f = ap survey.Good f ∙ ap (λ (s : Bool). surveyed s n) e
+  pub first-next : cond (f (k + 1)) (so k) (earlier (so k) (taskMeant z (k + 1))) ≡ so (k + 1)
+  first-next = go (each f k) refl (f (k + 1)) refl
+    where
+      go : (s : Bool) → each f k ≡ s → (t : Bool) → f (k + 1) ≡ t
+          → cond (f (k + 1)) (so k) (earlier (so k) (taskMeant z (k + 1))) ≡ so (k + 1)
+      go true e true g =
+          ap (λ (t : Bool). cond t (so k) (earlier (so k) (taskMeant z (k + 1)))) g
+          ∙ ap (taskMeant z) (smallest-none f k e ∙ sym (smallest-none f (k + 1) (each-next f k e g)))
+      go true e false g =
+          ap (λ (t : Bool). cond t (so k) (earlier (so k) (taskMeant z (k + 1)))) g
+          ∙ ap (λ (x : ℕ). earlier (taskMeant z x) (taskMeant z (k + 1))) (smallest-none f k e)
+          ∙ ap (taskMeant z) (sym (smallest-is f (k + 1) k (omega arith) e g))
+      go false e t g =
+          let r = smallest-one f k e in
+          stays (smallestFailing f k) (r .0) (r .1) (f (k + 1)) ∙ ap (taskMeant z) (sym (smallest-stays f k e))

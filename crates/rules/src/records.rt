@@ -1,14 +1,13 @@
 // R1, R2, R4 and R6: the rules that ask each record by itself.
-ghost use mathlib.Core.Bool.{_&&_};
+ghost use mathlib.Core.Bool.{cond, _&&_};
 ghost use mathlib.Core.Path.{_≡_};
 ghost use Prim.Native.Nat.{_≤_};
 ghost use lib.Dec.{eqb};
 ghost use lib.ListN.{length, getD, take, drop};
-ghost use Rattle.links.specs.Queue.{each};
+ghost use Rattle.board.specs.Numbers.{taskMeant};
 ghost use Rattle.board.specs.Board.{total, boardOf};
-ghost use Rattle.queue_rules.specs.Walks.{counted, queued};
-ghost use Rattle.rules.specs.Checked.{surveyed};
-ghost use Rattle.paper.specs.Rules.{present, allZero, rule2At, goodMessage, rule4At, rule6At};
+ghost use Rattle.paper.specs.Rules.{present, allZero, goodMessage, goodFlags};
+ghost use Rattle.rules.specs.Checked.{messagesSeen, earlier, tasksSeen};
 use board::numbers::MessageMeant;
 use board::numbers::MsgNo;
 use board::numbers::Size;
@@ -16,6 +15,7 @@ use board::numbers::TaskMeant;
 use board::numbers::TaskNo;
 use board::places::Place;
 use board::records::Message;
+use board::records::Task;
 use lent::by_word::message_meant;
 use lent::by_word::place_meant;
 use lent::by_word::task_meant;
@@ -27,16 +27,16 @@ use record_rules::messages::zero_message;
 use record_rules::tasks::good_flags;
 use record_rules::tasks::good_task;
 
-// What a look at every task's record tells: the first that breaks R2, the first that breaks R6, and how many tasks are present.
+// What a look at the tasks tells: the first whose record breaks R2, if any; else the first that breaks R6, and how many are present.
 pub struct Tasks {
-    pub bad: TaskMeant,
-    pub flags: TaskMeant,
+    pub breaks2: TaskMeant,
+    pub breaks6: TaskMeant,
     pub present: u16,
 }
 
-// And at every message's: the first that breaks R4, and how many messages are queued.
+// What a look at the messages tells: the first that breaks R4, if any; else how many are queued.
 pub struct Messages {
-    pub bad: MessageMeant,
+    pub breaks4: MessageMeant,
     pub queued: u16,
 }
 
@@ -78,50 +78,67 @@ pub fn survey_messages(z: Size, l: &[u8]) -> Messages
 {
     let most = z.messages;
     let mut m: u16 = 0;
-    let mut bad = MessageMeant::NoMessage;
     let mut queued: u16 = 0;
     while m < most {
         m += 1;
         let u = message_meant(z, l, m);
         let p = place_meant(z, l, m);
         if !good_message(z, l, u, p) {
-            bad = bad.or(MsgNo::meant(z, m));
+            return Messages {
+                breaks4: MsgNo::meant(z, m),
+                queued: 0,
+            };
         }
         if let Place::QueuedAt(_) = p {
             queued += 1;
         }
     }
     Messages {
-        bad: bad,
+        breaks4: MessageMeant::NoMessage,
         queued: queued,
     }
 }
 
+// The first task that breaks R6: the one found so far, if any, else task k where its flags do not agree.
+fn first_breaking6(z: Size, found: TaskMeant, k: u16, t: Task) -> TaskMeant
+    ensures { λ res. ⌜ res ≡ cond (goodFlags (t .stat) (eqb (t .mptr) 0)) found (earlier found (taskMeant z k)) ⌝ }
+{
+    if good_flags(t.stat, t.mptr == 0) {
+        return found;
+    }
+    match found {
+        TaskMeant::Task(_) => found,
+        TaskMeant::NoTask => TaskNo::meant(z, k),
+    }
+}
+
+// R2 and R6 in one look. R6 is the check's business only where R2 to R5 hold, so it goes on behind a record that breaks R6.
 pub fn survey_tasks(z: Size, l: &[u8]) -> Tasks
     requires { ⌜ total z ≤ length (now l) ⌝ }
     ensures { λ res. ⌜ res ≡ tasksSeen z (boardOf z (now (l .entry))) ⌝ }
 {
     let most = z.tasks;
     let mut k: u16 = 0;
-    let mut bad = TaskMeant::NoTask;
-    let mut flags = TaskMeant::NoTask;
+    let mut breaks6 = TaskMeant::NoTask;
     let mut present: u16 = 0;
     while k < most {
         k += 1;
         let t = task_meant(z, l, k);
         if !good_task(t) {
-            bad = bad.or(TaskNo::meant(z, k));
+            return Tasks {
+                breaks2: TaskNo::meant(z, k),
+                breaks6: TaskMeant::NoTask,
+                present: 0,
+            };
         }
-        if !good_flags(t.stat, t.mptr == 0) {
-            flags = flags.or(TaskNo::meant(z, k));
-        }
+        breaks6 = first_breaking6(z, breaks6, k, t);
         if t.present() {
             present += 1;
         }
     }
     Tasks {
-        bad: bad,
-        flags: flags,
+        breaks2: TaskMeant::NoTask,
+        breaks6: breaks6,
         present: present,
     }
 }

@@ -1,20 +1,24 @@
--- `rules::records::rule4` meets its contract.
+-- `rules::records::survey_messages` meets its contract.
 use mathlib.Core.Path.{_≡_, refl, sym, ap, ap₂, _∙_}
 use mathlib.Core.Bool.{true}
 use Prim.Native.Nat.{_-_, _≤_}
 use native.Mathlib.Omega.{arith}
 use denote.Ref.{now}
+use borrow.Author.Tests.{not-true, not-false}
 use borrow.Author.Needs.{needs}
 use Rattle.links.specs.Queue.{each}
+use Rattle.links.proofs.Bools.{each-next}
+use Rattle.board.specs.declared.numbers.MessageMeant.{MessageMeant}
 use Rattle.board.specs.Board.{boardOf}
 use Rattle.board.specs.Places.{isQueued}
 use Rattle.paper.specs.Rules.{present, goodMessage, rule4At}
 use Rattle.queue_rules.specs.Walks.{counted, queued}
 use Rattle.queue_rules.proofs.Turns.{count-starts, count-yes, count-no, count-bound}
-use Rattle.rules.proofs.Turns.{each-next, each-fails, each-done, survey-fails, survey-done}
-use Rattle.rules.proofs.Places.{not-queued}
-use Rattle.rules.proofs.records.rule4.Statement.{statement}
-use Rattle.rules.proofs.records.rule4.Tie as tie
+use Rattle.queue_rules.proofs.Places.{not-queued}
+use Rattle.rules.specs.Checked.{messagesOf}
+use Rattle.rules.proofs.Turns.{messages-fail, messages-good}
+use Rattle.rules.proofs.records.survey_messages.Statement.{statement}
+use Rattle.rules.proofs.records.survey_messages.Tie as tie
 
 abbrev Inv-loop : tie.InvT-loop
 Inv-loop z l most m₀ n₀ m n =
@@ -33,16 +37,18 @@ add-m c = omega arith
 
 returns : tie.Need-returns Inv-loop μ-loop
 returns c =
-    let p = c .before .before .before .before .before .loop in
-    let a = c .before .before .before .before .before .before .before .args in
+    let g = c .before in
+    let p = g .before .before .before .before .before .loop in
+    let a = g .before .before .before .before .before .before .before .args in
     let b = boardOf (a .z) (now (a .l)) in
-    survey-fails _ (counted (queued b) (a .z .messages)) (each-fails (rule4At (a .z) b) (a .z .messages) (p .m) _ (c .before .before .before .before .loop-test .taken)
-    (c .before .good-message .ensures
-    ∙ ap₂ (goodMessage (a .z) (present b)) (c .before .before .before .message-meant .ensures) (c .before .before .place-meant .ensures))
-    (c .if1 .taken))
+    ap (λ (m : MessageMeant). messagesOf m 0) (c .meant .ensures)
+    ∙ messages-fail (a .z) b (p .m) (g .before .before .before .before .loop-test .taken) (p .inv .2)
+    (sym (g .before .good-message .ensures
+    ∙ ap₂ (goodMessage (a .z) (present b)) (g .before .before .before .message-meant .ensures) (g .before .before .place-meant .ensures))
+    ∙ not-true _ (g .if1 .taken))
 
-add-n : tie.Need-add-n Inv-loop μ-loop
-add-n c = omega (arith, count-bound _ _ _ (c .before .before .before .before .before .before .before .loop .inv .3))
+add-queued : tie.Need-add-queued Inv-loop μ-loop
+add-queued c = omega (arith, count-bound _ _ _ (c .before .before .before .before .before .before .before .loop .inv .3))
 
 loop-less : tie.Need-loop-less Inv-loop μ-loop
 loop-less c = omega arith
@@ -55,10 +61,10 @@ loop-again c =
     let b = boardOf (a .z) (now (a .l)) in (
       omega arith,
       refl,
-      each-next (rule4At (a .z) b) (p .m) _
-          (g .before .good-message .ensures
+      each-next (rule4At (a .z) b) (p .m) (p .inv .2)
+          (sym (g .before .good-message .ensures
           ∙ ap₂ (goodMessage (a .z) (present b)) (g .before .before .before .message-meant .ensures) (g .before .before .place-meant .ensures))
-          (g .if1 .left) (p .inv .2),
+          ∙ not-false _ (g .if1 .left)),
       count-yes _ _ _ (p .inv .3) (ap isQueued (sym (g .before .before .place-meant .ensures) ∙ c .enum-told .given .1)),
     )
 
@@ -73,10 +79,10 @@ loop-again-2 c =
     let b = boardOf (a .z) (now (a .l)) in (
       omega arith,
       refl,
-      each-next (rule4At (a .z) b) (p .m) _
-          (g .before .good-message .ensures
+      each-next (rule4At (a .z) b) (p .m) (p .inv .2)
+          (sym (g .before .good-message .ensures
           ∙ ap₂ (goodMessage (a .z) (present b)) (g .before .before .before .message-meant .ensures) (g .before .before .place-meant .ensures))
-          (g .if1 .left) (p .inv .2),
+          ∙ not-false _ (g .if1 .left)),
       count-no _ _ _ (p .inv .3)
           (not-queued _ (g .before .before .place-meant .result) (g .before .before .place-meant .ensures) (c .match .keys2)),
     )
@@ -86,11 +92,11 @@ returns-2 c =
     let p = c .before .loop in
     let a = c .before .before .before .args in
     let b = boardOf (a .z) (now (a .l)) in
-    survey-done _ (counted (queued b) (a .z .messages)) (each-done (rule4At (a .z) b) (a .z .messages) (p .m) (omega arith) (p .inv .2))
-    (p .inv .3 ∙ ap (counted (queued b)) (omega arith))
+    let e : p .m ≡ a .z .messages = omega arith in
+    messages-good (a .z) b (p .queued) (sym (ap (each (rule4At (a .z) b)) e) ∙ p .inv .2) (p .inv .3 ∙ ap (counted (queued b)) e)
 
-pub rule4-spec : {M : Type 1} → statement M
-rule4-spec =
+pub survey-messages-spec : {M : Type 1} → statement M
+survey-messages-spec =
     tie.close
     (tie.spec Inv-loop μ-loop loop-holds add-m (λ c κs. search needs) (λ c κs. search needs) (λ c κs. search needs)
-    returns (λ c. search needs) add-n loop-less loop-again loop-less-2 loop-again-2 returns-2)
+    (λ c κs. search needs) returns (λ c. search needs) add-queued loop-less loop-again loop-less-2 loop-again-2 returns-2)
