@@ -1,46 +1,133 @@
+-- `rules::check_rules` meets its contract.
+use mathlib.Core.Path.{sym, _∙_}
+use denote.Ref.{now}
+use borrow.Author.Tests.{not-true, not-false}
 use borrow.Author.Needs.{needs}
+use Rattle.rules.proofs.Checking.{broken2, kept2, order-asked, out-of-order, in-order, runs, broken4, kept4, broken5, kept5}
+use Rattle.rules.proofs.Checking.{broken6, kept6, broken7, kept7}
+use Rattle.rules.proofs.Checking.{breaks1, breaks2, breaks3, breaks4, breaks5, breaks6, breaks7, all-hold}
 use Rattle.rules.proofs.check_rules.Statement.{statement}
 use Rattle.rules.proofs.check_rules.Tie as tie
-use Rattle.rules.proofs.check_rules.Reads as reads
-use Rattle.rules.proofs.check_rules.Lts as lts
-use Rattle.order_rules.proofs.tasks.rule3.Reads as rule3-reads
-use Rattle.queue_rules.proofs.rule5.Reads as rule5-reads
-use Rattle.rules.proofs.records.rule1.Reads as rule1-reads
-use Rattle.rules.proofs.records.survey_messages.Reads as survey-messages-reads
-use Rattle.rules.proofs.records.survey_tasks.Reads as survey-tasks-reads
-use Rattle.rules.proofs.rule7.Reads as rule7-reads
 
--- src/lib.rt:51:9
+-- what each step found is named by its rule: s2 the look at the tasks and what it says of R2, s3 the walk of R3, and so on
 returns : tie.Need-returns
-returns c = ?
+returns c =
+    let a = c .before .before .before .args in
+    breaks1 (a .z) (now (a .l)) (sym (c .before .rule1 .ensures) ∙ not-true _ (c .if1 .taken))
 
--- src/lib.rt:56:9
 returns-2 : tie.Need-returns-2
-returns-2 c = ?
+returns-2 c =
+    let a = c .before .before .before .before .before .before .before .args in
+    let h1 = sym (c .before .before .before .before .before .rule1 .ensures) ∙ not-false _ (c .before .before .before .before .if1 .left) in
+    let n = broken2 (a .z) (now (a .l)) (c .before .before .before .survey-tasks .ensures) (c .before .breaks2 .given .1) in
+    breaks2 (a .z) (now (a .l)) h1 (n .0) (n .1)
 
--- src/lib.rt:60:9
 returns-3 : tie.Need-returns-3
-returns-3 c = ?
+returns-3 c =
+    let t = c .before .before .before in
+    let a = t .before .before .before .before .before .before .args in
+    let h1 = sym (t .before .before .before .before .rule1 .ensures) ∙ not-false _ (t .before .before .before .if1 .left) in
+    let s2 = t .before .before .survey-tasks .ensures in
+    let e2 = t .enum-told .given .1 in
+    let h2 = kept2 (a .z) (now (a .l)) s2 e2 in
+    breaks3 (a .z) (now (a .l)) h1 h2
+    (out-of-order (a .z) (now (a .l)) (sym (c .enum-told2 .given .1) ∙ order-asked (a .z) (now (a .l)) s2 e2 (c .before .before .rule3 .ensures)))
 
--- src/lib.rt:65:9
 returns-4 : tie.Need-returns-4
-returns-4 c = ?
+returns-4 c =
+    let o = c .before .before .before .before .before in
+    let t = o .before .before .before in
+    let a = t .before .before .before .before .before .before .args in
+    let h1 = sym (t .before .before .before .before .rule1 .ensures) ∙ not-false _ (t .before .before .before .if1 .left) in
+    let s2 = t .before .before .survey-tasks .ensures in
+    let e2 = t .enum-told .given .1 in
+    let h2 = kept2 (a .z) (now (a .l)) s2 e2 in
+    let s3 = sym (o .order .given .1) ∙ order-asked (a .z) (now (a .l)) s2 e2 (o .before .before .rule3 .ensures) in
+    let h3 = in-order (a .z) (now (a .l)) s3 in
+    let n = broken4 (a .z) (now (a .l)) (c .before .before .before .survey-messages .ensures) (c .before .breaks4 .given .1) in
+    breaks4 (a .z) (now (a .l)) h1 h2 h3 (n .0) (n .1)
 
--- src/lib.rt:69:9
 returns-5 : tie.Need-returns-5
-returns-5 c = ?
+returns-5 c =
+    let q = c .before .before .before .before in
+    let o = q .before .before .before .before in
+    let t = o .before .before .before in
+    let a = t .before .before .before .before .before .before .args in
+    let h1 = sym (t .before .before .before .before .rule1 .ensures) ∙ not-false _ (t .before .before .before .if1 .left) in
+    let s2 = t .before .before .survey-tasks .ensures in
+    let e2 = t .enum-told .given .1 in
+    let h2 = kept2 (a .z) (now (a .l)) s2 e2 in
+    let s3 = sym (o .order .given .1) ∙ order-asked (a .z) (now (a .l)) s2 e2 (o .before .before .rule3 .ensures) in
+    let h3 = in-order (a .z) (now (a .l)) s3 in
+    let s4 = q .before .before .survey-messages .ensures in
+    let e4 = q .enum-told3 .given .1 in
+    let h4 = kept4 (a .z) (now (a .l)) s4 e4 in
+    let n = broken5 (a .z) (now (a .l)) s4 e4 (c .before .before .before .rule5 .ensures) (c .before .breaks5 .given .1) in
+    breaks5 (a .z) (now (a .l)) h1 h2 h3 h4 (n .0) (n .1)
 
--- src/lib.rt:73:9
 returns-6 : tie.Need-returns-6
-returns-6 c = ?
+returns-6 c =
+    let w = c .before .before .before in
+    let q = w .before .before .before in
+    let o = q .before .before .before .before in
+    let t = o .before .before .before in
+    let a = t .before .before .before .before .before .before .args in
+    let h1 = sym (t .before .before .before .before .rule1 .ensures) ∙ not-false _ (t .before .before .before .if1 .left) in
+    let s2 = t .before .before .survey-tasks .ensures in
+    let e2 = t .enum-told .given .1 in
+    let h2 = kept2 (a .z) (now (a .l)) s2 e2 in
+    let s3 = sym (o .order .given .1) ∙ order-asked (a .z) (now (a .l)) s2 e2 (o .before .before .rule3 .ensures) in
+    let h3 = in-order (a .z) (now (a .l)) s3 in
+    let s4 = q .before .before .survey-messages .ensures in
+    let e4 = q .enum-told3 .given .1 in
+    let h4 = kept4 (a .z) (now (a .l)) s4 e4 in
+    let h5 = kept5 (a .z) (now (a .l)) s4 e4 (w .before .before .rule5 .ensures) (w .enum-told4 .given .1) in
+    let n = broken6 (a .z) (now (a .l)) s2 e2 (c .before .breaks6 .given .1) in
+    breaks6 (a .z) (now (a .l)) h1 h2 h3 h4 h5 (n .0) (n .1)
 
--- src/lib.rt:77:9
 returns-7 : tie.Need-returns-7
-returns-7 c = ?
+returns-7 c =
+    let f = c .before .before .before .before in
+    let w = f .before .before in
+    let q = w .before .before .before in
+    let o = q .before .before .before .before in
+    let t = o .before .before .before in
+    let a = t .before .before .before .before .before .before .args in
+    let h1 = sym (t .before .before .before .before .rule1 .ensures) ∙ not-false _ (t .before .before .before .if1 .left) in
+    let s2 = t .before .before .survey-tasks .ensures in
+    let e2 = t .enum-told .given .1 in
+    let h2 = kept2 (a .z) (now (a .l)) s2 e2 in
+    let s3 = sym (o .order .given .1) ∙ order-asked (a .z) (now (a .l)) s2 e2 (o .before .before .rule3 .ensures) in
+    let h3 = in-order (a .z) (now (a .l)) s3 in
+    let s4 = q .before .before .survey-messages .ensures in
+    let e4 = q .enum-told3 .given .1 in
+    let h4 = kept4 (a .z) (now (a .l)) s4 e4 in
+    let h5 = kept5 (a .z) (now (a .l)) s4 e4 (w .before .before .rule5 .ensures) (w .enum-told4 .given .1) in
+    let h6 = kept6 (a .z) (now (a .l)) s2 e2 (f .enum-told5 .given .1) in
+    let n = broken7 (a .z) (now (a .l)) s3 (c .before .before .before .rule7 .ensures) (c .before .breaks7 .given .1) in
+    breaks7 (a .z) (now (a .l)) h1 h2 h3 h4 h5 h6 (n .0) (n .1)
 
--- src/lib.rt:46:1
 returns-8 : tie.Need-returns-8
-returns-8 c = ?
+returns-8 c =
+    let f = c .before .before .before in
+    let w = f .before .before in
+    let q = w .before .before .before in
+    let o = q .before .before .before .before in
+    let t = o .before .before .before in
+    let a = t .before .before .before .before .before .before .args in
+    let h1 = sym (t .before .before .before .before .rule1 .ensures) ∙ not-false _ (t .before .before .before .if1 .left) in
+    let s2 = t .before .before .survey-tasks .ensures in
+    let e2 = t .enum-told .given .1 in
+    let h2 = kept2 (a .z) (now (a .l)) s2 e2 in
+    let s3 = sym (o .order .given .1) ∙ order-asked (a .z) (now (a .l)) s2 e2 (o .before .before .rule3 .ensures) in
+    let h3 = in-order (a .z) (now (a .l)) s3 in
+    let s4 = q .before .before .survey-messages .ensures in
+    let e4 = q .enum-told3 .given .1 in
+    let h4 = kept4 (a .z) (now (a .l)) s4 e4 in
+    let h5 = kept5 (a .z) (now (a .l)) s4 e4 (w .before .before .rule5 .ensures) (w .enum-told4 .given .1) in
+    let h6 = kept6 (a .z) (now (a .l)) s2 e2 (f .enum-told5 .given .1) in
+    all-hold (a .z) (now (a .l)) h1 h2 h3 h4 h5 h6 (kept7 (a .z) (now (a .l)) s3 (c .before .before .rule7 .ensures) (c .enum-told6 .given .1))
+    (runs (a .z) (now (a .l)) s3)
 
 pub check-rules-spec : {M : Type 1} → statement M
 check-rules-spec =
