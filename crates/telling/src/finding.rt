@@ -6,6 +6,7 @@ ghost use Rattle.paper.specs.Outcomes.{Outcome, check};
 ghost use Rattle.telling.specs.Findings.{findingOf};
 use crate::print::decimal;
 use crate::print::text;
+use for_c::pack::record_number;
 use for_c::pack::refusal_number;
 use for_c::pack::rule_number;
 use paper::answer::Answer;
@@ -59,40 +60,32 @@ fn tell_record(before: &[u8], n: u16, behind: &[u8]) {
     text(behind);
 }
 
-// A rule of document 01 as the board breaks it.
-fn tell_fault(r: Rule) {
+// A rule of document 01 as the record n breaks it.
+fn tell_fault(r: Rule, n: u16) {
     match r {
         Rule::R1 => {
             text(b"bytes 1 to 3 are not zero");
         }
-        Rule::R2(k) => tell_record(
+        Rule::R2(_) => tell_record(
             b"the record of task ",
-            k.number(),
+            n,
             b" is neither zero nor that of a task (STAT and PRIO)",
         ),
         Rule::R3 => {
             text(b"the task queue does not visit exactly the present tasks, in order of priority");
         }
-        Rule::R4(m) => tell_record(
-            b"the record of message ",
-            m.number(),
-            b" does not go with its place",
-        ),
-        Rule::R5(k) => tell_record(
+        Rule::R4(_) => tell_record(b"the record of message ", n, b" does not go with its place"),
+        Rule::R5(_) => tell_record(
             b"the queue of task ",
-            k.number(),
+            n,
             b" does not visit exactly the messages placed there, in order of priority",
         ),
-        Rule::R6(k) => tell_record(
+        Rule::R6(_) => tell_record(
             b"WAIT, IWAT, INTQ and MHBS of task ",
-            k.number(),
+            n,
             b" do not go together, or not with its queue",
         ),
-        Rule::R7(k) => tell_record(
-            b"the running task ",
-            k.number(),
-            b" is still due a message (MHBS)",
-        ),
+        Rule::R7(_) => tell_record(b"the running task ", n, b" is still due a message (MHBS)"),
     }
 }
 
@@ -100,7 +93,7 @@ fn tell_rule(r: Rule) {
     text(b"rule ");
     decimal(rule_number(r) as u64);
     text(b": ");
-    tell_fault(r);
+    tell_fault(r, record_number(r));
 }
 
 // The check gives two refusals only: the length is wrong, or a rule is broken.
