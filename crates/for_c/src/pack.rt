@@ -75,7 +75,9 @@ fn named(q: Refusal) -> u64
     let Refusal::RuleBroken(r) = q else {
         return 0;
     };
-    rule_number(r) as u64 + 256 * wide(record_number(r))
+    let rule = rule_number(r) as u64;
+    let record = wide(record_number(r));
+    rule + 256 * record
 }
 
 pub fn pack(a: Answer) -> u64

@@ -5,7 +5,8 @@ use mathlib.Core.Bool.{true, false}
 use mathlib.Core.List.{List, [], _∷_}
 use Prim.Native.Nat.{ℕ, _-_}
 use lib.ListN.{getD}
-use Rattle.links.specs.Queue.{ends, goesBefore, insert, lists}
+use lib.Dec.{eqb}
+use Rattle.links.specs.Queue.{ends, goesBefore, insert, lists, smallestFailing}
 
 -- the values of 1, 2 ..
 abbrev given : List ℕ → ℕ → ℕ
@@ -27,3 +28,7 @@ case-lifo-before-equals = refl
 -- FIFO it goes behind its equal
 pub case-fifo-behind-equals : insert (λ x. goesBefore true 5 (given (3 ∷ 5 ∷ 7 ∷ []) x)) 4 (1 ∷ 2 ∷ 3 ∷ []) ≡ 1 ∷ 2 ∷ 4 ∷ 3 ∷ []
 case-fifo-behind-equals = refl
+
+-- of 1 to 4 all but 3 fail, and the smallest is meant
+pub case-smallest-failing : smallestFailing (λ n. eqb n 3) 4 ≡ 1
+case-smallest-failing = refl

@@ -1,7 +1,7 @@
 pub mod Slips
-mod NamedCases
+pub mod NamedCases
 mod Served
 pub mod Rows
-pub mod Theorems
 pub mod Which
+pub mod Theorems
 pub mod Naming
