@@ -48,8 +48,8 @@ middle-told (Refused q) (Accepted v c m) w u i j = let k = refusal-number q .0 i
 middle-told (Refused q) (Refused r) w u i j =
     let k = rule-small (Refused q) in
     let l = rule-small (Refused r) in
-    let (rule, recordNo) = byte-told (told q .rule) (told r .rule) (told q .recordNo) (told r .recordNo) (omega arith) (omega arith)
-    (omega arith) in
+    let (rule, recordNo) = byte-told (told q .rule) (told r .rule) (told q .recordNo) (told r .recordNo)
+    (omega arith) (omega arith) (omega arith) in
     (refl, rule, recordNo)
 
 -- so the number, the middle, running and delivered, one after the other
