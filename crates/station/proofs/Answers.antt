@@ -13,10 +13,12 @@ use Rattle.board.specs.declared.numbers.TaskMeant.{TaskMeant}
 use Rattle.board.specs.Numbers.{small, taskMeant, numberOfTask}
 use Rattle.board.specs.Board.{Board, total, boardOf}
 use Rattle.paper.specs.declared.answer.Answer.the-variants.{Accepted, Refused}
+use Rattle.paper.specs.declared.answer.Rule.{Rule}
 use Rattle.paper.specs.declared.answer.Refusal.the-variants.{WrongLength, RuleBroken}
 use Rattle.paper.specs.Rules.{running, passes}
+use Rattle.paper.specs.Named.{brokenRule}
 use Rattle.paper.specs.Refusals.{test, lowest}
-use Rattle.paper.specs.Outcomes.{Outcome, Ends, accepted, judge, blank, fresh, check}
+use Rattle.paper.specs.Outcomes.{Outcome, Ends, accepted, refused, judge, blank, fresh, check}
 use Rattle.rules.specs.declared.Checked.{Checked}
 use Rattle.rules.specs.declared.Checked.the-variants.{Passes, Broken}
 use Rattle.rules.specs.Checked.{checkedOf}
@@ -68,19 +70,20 @@ module _ (l : List ℕ) {x : Checked} (ex : x ≡ checkedOf small (boardOf small
   abbrev b : Board
   b = boardOf small l
 
-  -- one is broken
-  pub rules-broken : x ≡ Broken → passes small b ≡ false
-  rules-broken e = go (passes small b) (sym ex ∙ e)
+  -- one is broken, and r is told
+  pub rules-broken : {r : Rule} → x ≡ Broken r → (passes small b ≡ false) × (r ≡ brokenRule small b)
+  rules-broken {r = r} e = go (passes small b) (sym ex ∙ e)
     where
-      go : (t : Bool) → cond t (Passes (taskMeant small (running small b))) Broken ≡ Broken → t ≡ false
+      go : (t : Bool) → cond t (Passes (taskMeant small (running small b))) (Broken (brokenRule small b)) ≡ Broken r
+          → (t ≡ false) × (r ≡ brokenRule small b)
       go true p = absurd (let y : _≡_ {A = ℕ} 0 1 = cc in omega arith)
-      go false p = refl
+      go false p = (refl, cc)
 
   -- none is, and w runs
   pub rules-kept : {w : TaskMeant} → x ≡ Passes w → (passes small b ≡ true) × (w ≡ taskMeant small (running small b))
   rules-kept {w = w} e = go (passes small b) (sym ex ∙ e)
     where
-      go : (t : Bool) → cond t (Passes (taskMeant small (running small b))) Broken ≡ Passes w
+      go : (t : Bool) → cond t (Passes (taskMeant small (running small b))) (Broken (brokenRule small b)) ≡ Passes w
           → (t ≡ true) × (w ≡ taskMeant small (running small b))
       go true p = (refl, cc)
       go false p = absurd (let y : _≡_ {A = ℕ} 0 1 = cc in omega arith)
@@ -88,7 +91,8 @@ module _ (l : List ℕ) {x : Checked} (ex : x ≡ checkedOf small (boardOf small
 -- ---- check
 abbrev checked : List ℕ → Bool → Bool → Outcome
 checked l t u =
-    judge l (lowest (test WrongLength (not t) ∷ test RuleBroken (not u) ∷ [])) (accepted 0 (running small (boardOf small l)) 0 l)
+    judge l (lowest (test WrongLength (not t) ∷ test (RuleBroken (brokenRule small (boardOf small l))) (not u) ∷ []))
+    (accepted 0 (running small (boardOf small l)) 0 l)
 
 module _ (l : List ℕ) {s : Bool} (es : s ≡ eqb (length l) (total small)) where
   -- 1
@@ -97,8 +101,10 @@ module _ (l : List ℕ) {s : Bool} (es : s ≡ eqb (length l) (total small)) whe
 
   module _ (h : not s ≡ false) {x : Checked} (ex : x ≡ checkedOf small (boardOf small l)) where
     -- 2
-    pub check-broken : x ≡ Broken → Ends (Refused RuleBroken) l (check small l)
-    check-broken e = ends (λ i. checked l (sized-so l es h i) (rules-broken l ex e i))
+    pub check-broken : {r : Rule} → x ≡ Broken r → Ends (Refused (RuleBroken r)) l (check small l)
+    check-broken e =
+        let n = rules-broken l ex e in
+        ends ((λ i. checked l (sized-so l es h i) (n .0 i)) ∙ ap (λ (r : Rule). refused l (RuleBroken r)) (sym (n .1)))
 
     pub check-passed : {w : TaskMeant} {n : ℕ} → x ≡ Passes w → n ≡ numberOfTask w → Ends (Accepted 0 n 0) l (check small l)
     check-passed e en =

@@ -13,10 +13,11 @@ use Rattle.board.proofs.Codec.{Small, small-bytes}
 use Rattle.paper.specs.declared.call.Call.{Call}
 use Rattle.paper.specs.declared.answer.Answer.{Answer}
 use Rattle.paper.specs.declared.answer.Answer.the-variants.{Refused}
+use Rattle.paper.specs.declared.answer.Rule.{Rule}
 use Rattle.paper.specs.declared.answer.Refusal.the-variants.{WrongLength, RuleBroken}
 use Rattle.paper.specs.Rules.{running}
 use Rattle.paper.specs.Refusals.{no1, no2, ownRow, Verdict}
-use Rattle.paper.specs.Outcomes.{Outcome, Ends, judge, body, dispatch, effect}
+use Rattle.paper.specs.Outcomes.{Outcome, Ends, refused, judge, body, dispatch, effect}
 use Rattle.kept.specs.Settled.{Fitting}
 use Rattle.kept.proofs.Theorems.{small-sizes}
 use Rattle.stores.specs.Answers.{Runs}
@@ -48,10 +49,13 @@ module _ (l : List ℕ) (call : Call) {s : Bool} (es : s ≡ eqb (length l) (tot
   -- it is right, and x is what the check of the rules says
   module _ (h : not s ≡ false) {x : Checked} (ex : x ≡ checkedOf small b) where
     -- 2
-    pub step-broken : x ≡ Broken → Ends (Refused RuleBroken) l (effect small l call)
+    pub step-broken : {r : Rule} → x ≡ Broken r → Ends (Refused (RuleBroken r)) l (effect small l call)
     step-broken p =
         let on = lowest-on (no1 small l) (no2 small b ∷ ownRow small b c call) (ap not (sized-so l es h)) in
-        ends (ap by (on ∙ lowest-stop (no2 small b) (ownRow small b c call) (ap not (rules-broken l ex p))))
+        let n = rules-broken l ex p in
+        ends
+        (ap by (on ∙ lowest-stop (no2 small b) (ownRow small b c call) (ap not (n .0)))
+        ∙ ap (λ (r : Rule). refused l (RuleBroken r)) (sym (n .1)))
 
     module _ {w : TaskMeant} (p : x ≡ Passes w) where
       -- what a call asks for
