@@ -1,12 +1,13 @@
 -- The two kinds of numbers and the sizes of a board. A reader must believe this file.
 --   small            the board of document 01: 32 tasks, 128 messages
+--   Numbered n k     k is a number from 1 to n
 --   outside last n   n is 0 or above the last number
 --   taskMeant z w    the task that the word w means on a board of size z, if any; messageMeant likewise
 --   numberOfTask t   its number, 0 for no task; numberOfMessage likewise
 --   onBoard last w   w itself where it is a number up to the last, else 0
 -- Assumes nothing.
 use mathlib.Core.Bool.{Bool, cond, _||_}
-use Prim.Native.Nat.{ℕ}
+use Prim.Native.Nat.{ℕ, _≤_}
 use lib.Dec.{eqb, ltb}
 use Rattle.board.specs.declared.numbers.Size.{Size}
 use Rattle.board.specs.declared.numbers.TaskNo.{TaskNo}
@@ -18,6 +19,9 @@ use Rattle.board.specs.declared.numbers.MessageMeant.the-variants.{Messa
 
 abbrev pub small : Size
 small = record { tasks = 32; messages = 128 }
+
+abbrev pub Numbered : ℕ → ℕ → Type 0
+Numbered n k = (1 ≤ k) × (k ≤ n)
 
 abbrev pub outside : ℕ → ℕ → Bool
 outside last n = eqb n 0 || ltb last n

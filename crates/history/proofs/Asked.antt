@@ -15,13 +15,12 @@ use Rattle.links.proofs.Chains.{chain-first}
 use Rattle.board.specs.declared.numbers.Size.{Size}
 use Rattle.board.specs.declared.places.Place.{Place}
 use Rattle.board.specs.declared.places.Place.the-variants.{Free, QueuedAt}
-use Rattle.board.specs.Numbers.{taskNo}
+use Rattle.board.specs.Numbers.{taskNo, Numbered}
 use Rattle.board.specs.Places.{isFree, isHeldBy}
 use Rattle.board.specs.Board.{Board, task, place}
 use Rattle.paper.specs.Rules.{present, nextMessage, order, queue, ready, running}
 use Rattle.paper.specs.Effects.{lowestFree, find}
 use Rattle.paper.specs.Refusals.{holdsOne}
-use Rattle.linked.specs.Linked.{Numbered}
 use Rattle.linked.specs.Sound.{PlaceGood}
 use Rattle.linked.proofs.Running.{placed-numbered}
 use Rattle.kept.specs.Settled as kept

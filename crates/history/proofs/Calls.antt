@@ -8,7 +8,7 @@ use mathlib.Core.List.{List, [], _∷_}
 use Prim.Native.Nat.{ℕ}
 use Rattle.board.specs.declared.numbers.Size.{Size}
 use Rattle.board.specs.declared.places.Place.the-variants.{HeldBy}
-use Rattle.board.specs.Numbers.{taskNo}
+use Rattle.board.specs.Numbers.{taskNo, Numbered}
 use Rattle.board.specs.Board.{Board, message, place}
 use Rattle.paper.specs.declared.call.Call.{Call}
 use Rattle.paper.specs.declared.call.Call.the-variants.{Install, PostInterrupt, Find, CancelTask, Claim, Prepare, Release}
@@ -19,7 +19,6 @@ use Rattle.paper.specs.Changes.{takeFirst}
 use Rattle.paper.specs.Effects.{waits}
 use Rattle.paper.specs.Refusals.{Test, no3, no4, no5, no6, no7, no10, no14, ownRow, Go, lowest}
 use Rattle.paper.specs.Outcomes.{Undispatched, undispatched, body}
-use Rattle.linked.specs.Linked.{Numbered}
 use Rattle.linked.proofs.Running.{runner-says}
 use Rattle.kept.specs.Settled.{Settled}
 use Rattle.kept.specs.Touched.{touched, changed, orderAfter, queuesAfter}

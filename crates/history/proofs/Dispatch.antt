@@ -8,6 +8,7 @@ use lib.ListN.{length}
 use borrow.Author.Tests.{ne-eqb}
 use Rattle.links.specs.Queue.{firstOf, restOf}
 use Rattle.board.specs.declared.numbers.Size.{Size}
+use Rattle.board.specs.Numbers.{Numbered}
 use Rattle.board.specs.Status.{MHBS, has}
 use Rattle.board.specs.Board.{Board, bytesOf, task}
 use Rattle.paper.specs.declared.answer.Answer.the-variants.{Accepted}
@@ -15,7 +16,6 @@ use Rattle.paper.specs.Rules.{present, queue, emptyQueue, running}
 use Rattle.paper.specs.Changes.{clears, takeFirst}
 use Rattle.paper.specs.Refusals.{Test}
 use Rattle.paper.specs.Outcomes as paper
-use Rattle.linked.specs.Linked.{Numbered}
 use Rattle.linked.proofs.Running.{runner-says}
 use Rattle.kept.specs.Settled.{Settled}
 use Rattle.kept.specs.Touched.{changed}

@@ -13,7 +13,7 @@ use Rattle.links.specs.Chain.{In}
 use Rattle.links.proofs.Members.{in-add}
 use Rattle.links.specs.Queue.{goesBefore, insert, without}
 use Rattle.board.specs.declared.numbers.Size.{Size}
-use Rattle.linked.specs.Linked.{Numbered}
+use Rattle.board.specs.Numbers.{Numbered}
 use Rattle.kept.specs.Touched.{changed}
 use Rattle.history.specs.Ranking.{Entry, keep, DifferentTimes, Names}
 use Rattle.history.proofs.Entries.{times-keep, in-keep, keep-keep, keep-add, keep-all}

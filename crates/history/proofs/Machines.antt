@@ -14,7 +14,7 @@ use Rattle.board.specs.declared.records.Task.{Task}
 use Rattle.board.specs.declared.records.Message.{Message}
 use Rattle.board.specs.declared.places.Place.{Place}
 use Rattle.board.specs.declared.places.Place.the-variants as places
-use Rattle.board.specs.Numbers.{taskNo}
+use Rattle.board.specs.Numbers.{taskNo, Numbered}
 use Rattle.board.specs.Status.{WAIT, IWAT, INTQ, MHBS, has, stored, number, withFifo}
 use Rattle.board.specs.Records.{noTask, noMessage, withPrio}
 use Rattle.board.specs.Board.{Board, nth, put, task, message, place, withTask, withMessage, withPlace}
@@ -22,7 +22,6 @@ use Rattle.board.proofs.Numbered.{nth-put, nth-put-other, nth-alike, length-put
 use Rattle.paper.specs.Changes.{sets, clears, linkTask, linkMessage, withQueue, withOrder, hold}
 use Rattle.paper.specs.Rules.{order, emptyQueue, taskNumber}
 use Rattle.paper.specs.Effects.{queueWith, woken, placeAt, emptied, install, cancelTask, post, waitInterrupt}
-use Rattle.linked.specs.Linked.{Numbered}
 use Rattle.kept.proofs.Reading.{relink-keeps}
 use Rattle.history.specs.Ranking.{Entry}
 use Rattle.history.specs.Machine as plain

@@ -12,9 +12,9 @@ use Rattle.links.specs.Queue.{goesBefore, insert, without}
 use Rattle.links.proofs.Bools.{cond-holds}
 use Rattle.board.specs.declared.numbers.Size.{Size}
 use Rattle.board.specs.declared.status.Status.{Status}
+use Rattle.board.specs.Numbers.{Numbered}
 use Rattle.board.specs.Status.{WAIT, MHBS, has, number, fifo}
 use Rattle.board.proofs.Bits.{number-withFifo}
-use Rattle.linked.specs.Linked.{Numbered}
 use Rattle.kept.specs.Touched.{changed}
 use Rattle.history.specs.Ranking.{Entry}
 use Rattle.history.specs.Machine.{Sheet, Block, Plain, noSheet, machine, upd, withBlock, flagged, sets, clears, first, place, take, cancelMessage, install, cancelTask}

@@ -10,13 +10,12 @@ use lib.ListN.{length}
 use Rattle.links.specs.Chain.{In}
 use Rattle.board.specs.declared.numbers.Size.{Size}
 use Rattle.board.specs.declared.places.Place.the-variants.{HeldBy}
-use Rattle.board.specs.Numbers.{taskNo}
+use Rattle.board.specs.Numbers.{taskNo, Numbered}
 use Rattle.board.specs.Status.{WAIT, MHBS}
 use Rattle.board.specs.Board.{Board, task, message, place}
 use Rattle.board.proofs.Numbered.{length-put}
 use Rattle.paper.specs.Changes.{sets}
 use Rattle.paper.specs.Effects.{placeAt, ownPrio, addressed, send, waits}
-use Rattle.linked.specs.Linked.{Numbered}
 use Rattle.kept.specs.Settled.{Settled}
 use Rattle.kept.specs.Touched.{IntoQueue, queuesAfter}
 use Rattle.kept.specs.Claims.{Sizes}

@@ -12,14 +12,13 @@ use Rattle.links.proofs.Bools.{cond-holds}
 use Rattle.board.specs.declared.numbers.Size.{Size}
 use Rattle.board.specs.declared.status.Status.{Status}
 use Rattle.board.specs.declared.places.Place.the-variants.{Free, HeldBy}
-use Rattle.board.specs.Numbers.{taskNo}
+use Rattle.board.specs.Numbers.{taskNo, Numbered}
 use Rattle.board.specs.Status.{IWAT, INTQ, has}
 use Rattle.board.specs.Records.{noMessage}
 use Rattle.board.specs.Board.{Board, task, place, withMessage}
 use Rattle.board.specs.Places.{isQueued}
 use Rattle.paper.specs.Rules.{present}
 use Rattle.paper.specs.Effects.{install, cancelTask, post, waitInterrupt, lowestFree, claim, release, prepare}
-use Rattle.linked.specs.Linked.{Numbered}
 use Rattle.linked.proofs.Running.{lowest-free}
 use Rattle.kept.specs.Settled.{Settled}
 use Rattle.kept.specs.Touched.{IntoOrder, OutOfOrder, orderAfter}

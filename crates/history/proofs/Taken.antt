@@ -16,14 +16,13 @@ use Rattle.links.proofs.Removal.{rest-without}
 use Rattle.board.specs.declared.numbers.Size.{Size}
 use Rattle.board.specs.declared.records.Task.{Task}
 use Rattle.board.specs.declared.places.Place.the-variants.{QueuedAt}
-use Rattle.board.specs.Numbers.{taskNo}
+use Rattle.board.specs.Numbers.{taskNo, Numbered}
 use Rattle.board.specs.Status.{WAIT, MHBS, has}
 use Rattle.board.specs.Places.{placeByte, isFree}
 use Rattle.board.specs.Board.{Board, task, place}
 use Rattle.paper.specs.Rules.{nextMessage, queue}
 use Rattle.paper.specs.Changes.{sets, clears, withQueue, hold, takeFirst}
 use Rattle.paper.specs.Effects.{cancelMessage}
-use Rattle.linked.specs.Linked.{Numbered}
 use Rattle.linked.proofs.Running.{placed-numbered}
 use Rattle.kept.specs.Settled.{Settled}
 use Rattle.kept.specs.Touched.{changed}

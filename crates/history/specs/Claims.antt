@@ -20,7 +20,7 @@ use Rattle.board.specs.declared.records.Task.{Task}
 use Rattle.board.specs.declared.records.Message.{Message}
 use Rattle.board.specs.declared.places.Place.{Place}
 use Rattle.board.specs.declared.places.Place.the-variants as places
-use Rattle.board.specs.Numbers.{small}
+use Rattle.board.specs.Numbers.{small, Numbered}
 use Rattle.board.specs.Board.{boardOf, total, task, message, place}
 use Rattle.paper.specs.declared.call.Call.{Call}
 use Rattle.paper.specs.declared.answer.Answer.{Answer}
@@ -28,7 +28,6 @@ use Rattle.paper.specs.Rules.{nextTask, nextMessage, passes}
 use Rattle.paper.specs.Rules as rules
 use Rattle.paper.specs.Outcomes.{blank, Ends, effect, fresh}
 use Rattle.paper.specs.History as bytes
-use Rattle.linked.specs.Linked.{Numbered}
 use Rattle.kept.specs.Settled.{AllFit}
 use Rattle.kept.specs.Claims.{Sizes}
 use Rattle.history.specs.Ranking.{Entry, keep, Ranking, DifferentTimes, Names}

@@ -14,7 +14,7 @@ use Rattle.links.proofs.Removal.{in-without, out-without, once-without, sorted-
 use Rattle.board.specs.declared.numbers.Size.{Size}
 use Rattle.board.specs.declared.records.Task.{Task}
 use Rattle.board.specs.declared.places.Place.the-variants.{Free, HeldBy, QueuedAt}
-use Rattle.board.specs.Numbers.{taskNo}
+use Rattle.board.specs.Numbers.{taskNo, Numbered}
 use Rattle.board.specs.Status.{IWAT, has, number, stored}
 use Rattle.board.specs.Records.{noTask, taskWithLink}
 use Rattle.board.specs.Places.{isHeldBy}
@@ -26,7 +26,6 @@ use Rattle.paper.specs.Rules.{isThere, present, nextTask, nextMessage, emptyQue
 use Rattle.paper.specs.Changes.{linkTask, withOrder}
 use Rattle.paper.specs.Effects.{cancelTask}
 use Rattle.paper.specs.Refusals.{holdsOne, ownRow, Go, lowest}
-use Rattle.linked.specs.Linked.{Numbered}
 use Rattle.linked.proofs.Running.{present-numbered, which-none}
 use Rattle.kept.specs.Settled.{Settled}
 use Rattle.kept.specs.Touched.{OutOfOrder, orderAfter}

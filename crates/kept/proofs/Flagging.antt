@@ -13,6 +13,7 @@ use Rattle.links.proofs.Bools.{cond-holds}
 use Rattle.board.specs.declared.numbers.Size.{Size}
 use Rattle.board.specs.declared.status.Status.{Status}
 use Rattle.board.specs.declared.records.Task.{Task}
+use Rattle.board.specs.Numbers.{Numbered}
 use Rattle.board.specs.Status.{WAIT, IWAT, BIT5, INTQ, MHBS, TCBB, has, withBit, withoutBit, number}
 use Rattle.board.specs.Records.{Byte, noTask, taskWithStat}
 use Rattle.board.specs.Board.{Board, task, place, withTask}
@@ -22,7 +23,6 @@ use Rattle.paper.specs.Rules.{isThere, present, nextTask, nextMessage, taskNumb
 use Rattle.paper.specs.Changes.{sets, clears}
 use Rattle.paper.specs.Effects.{post, waitInterrupt}
 use Rattle.paper.specs.Refusals.{no3, no6, ownRow, Go, lowest}
-use Rattle.linked.specs.Linked.{Numbered}
 use Rattle.linked.specs.Sound.{Proper, Regular, Flags}
 use Rattle.linked.proofs.Running.{present-numbered, runner-says}
 use Rattle.kept.specs.Settled.{FitsTask, Fits, Settled}

@@ -14,7 +14,7 @@ use Rattle.board.specs.declared.numbers.Size.{Size}
 use Rattle.board.specs.declared.records.Message.{Message}
 use Rattle.board.specs.declared.places.Place.{Place}
 use Rattle.board.specs.declared.places.Place.the-variants.{Free, HeldBy, QueuedAt}
-use Rattle.board.specs.Numbers.{taskNo}
+use Rattle.board.specs.Numbers.{taskNo, Numbered}
 use Rattle.board.specs.Status.{number}
 use Rattle.board.specs.Records.{Byte, Word, noMessage}
 use Rattle.board.specs.Places.{isQueued}
@@ -24,7 +24,7 @@ use Rattle.paper.specs.declared.call.Call.the-variants.{Claim, Prepare, Release
 use Rattle.paper.specs.Rules.{present, nextMessage, messageNumber, running}
 use Rattle.paper.specs.Effects.{lowestFree, claim, release, prepare}
 use Rattle.paper.specs.Refusals.{no14, ownRow, Go, lowest}
-use Rattle.linked.specs.Linked.{Listing, Numbered}
+use Rattle.linked.specs.Linked.{Listing}
 use Rattle.linked.specs.Sound.{Pointers, PlaceGood}
 use Rattle.linked.proofs.Running.{present-numbered, placed-numbered, runner-says, lowest-free}
 use Rattle.kept.specs.Settled.{FitsMessage, Fits, Settled, Fitting}

@@ -22,7 +22,7 @@ use Rattle.board.specs.declared.status.Status.{Status}
 use Rattle.board.specs.declared.records.Task.{Task}
 use Rattle.board.specs.declared.records.Message.{Message}
 use Rattle.board.specs.declared.places.Place.the-variants.{QueuedAt}
-use Rattle.board.specs.Numbers.{taskNo}
+use Rattle.board.specs.Numbers.{taskNo, Numbered}
 use Rattle.board.specs.Status.{WAIT, IWAT, BIT5, INTQ, MHBS, TCBB, stored, has, number}
 use Rattle.board.specs.Records.{Word, noTask, taskWithLink}
 use Rattle.board.specs.Board.{Board, task, message, place, withTask}
@@ -33,7 +33,7 @@ use Rattle.paper.specs.Rules.{isThere, present, nextTask, nextMessage, order, t
 use Rattle.paper.specs.Changes.{linkTask, withOrder}
 use Rattle.paper.specs.Effects.{install}
 use Rattle.paper.specs.Refusals.{no9, ownRow, Go, lowest}
-use Rattle.linked.specs.Linked.{Listing, Numbered}
+use Rattle.linked.specs.Linked.{Listing}
 use Rattle.linked.specs.Sound.{Proper, PlaceGood}
 use Rattle.linked.proofs.Tests.{says-goodHead}
 use Rattle.linked.proofs.Running.{present-numbered}

@@ -20,13 +20,13 @@ use Rattle.board.specs.declared.records.Task.{Task}
 use Rattle.board.specs.declared.records.Message.{Message}
 use Rattle.board.specs.declared.places.Place.{Place}
 use Rattle.board.specs.declared.places.Place.the-variants.{QueuedAt}
-use Rattle.board.specs.Numbers.{taskNo}
+use Rattle.board.specs.Numbers.{taskNo, Numbered}
 use Rattle.board.specs.Status.{number, fifo}
 use Rattle.board.specs.Records.{Word, noTask, noMessage, taskWithMptr, withLink}
 use Rattle.board.specs.Places.{placeByte}
 use Rattle.board.specs.Board.{Board, task, message, place, withMessage, withPlace}
 use Rattle.paper.specs.Rules.{present, isThere, nextTask, nextMessage, taskNumber, messageNumber}
-use Rattle.linked.specs.Linked.{Numbered, Listing}
+use Rattle.linked.specs.Linked.{Listing}
 use Rattle.linked.specs.Sound.{Pointers, PlaceGood, Flags}
 use Rattle.linked.proofs.Running.{present-numbered, placed-numbered}
 use Rattle.kept.specs.Settled.{FitsMessage, Fits, Settled}

@@ -19,7 +19,7 @@ use Rattle.board.specs.declared.status.Status.{Status}
 use Rattle.board.specs.declared.records.Task.{Task}
 use Rattle.board.specs.declared.records.Message.{Message}
 use Rattle.board.specs.declared.places.Place.the-variants.{HeldBy, QueuedAt}
-use Rattle.board.specs.Numbers.{taskNo}
+use Rattle.board.specs.Numbers.{taskNo, Numbered}
 use Rattle.board.specs.Status.{WAIT, IWAT, MHBS, TCBB, has, number, fifo, withFifo}
 use Rattle.board.specs.Records.{Byte, Word, withPrio, withRptr, withSptr}
 use Rattle.board.specs.Places.{placeByte, isQueued}
@@ -32,7 +32,6 @@ use Rattle.paper.specs.Changes.{withQueue}
 use Rattle.paper.specs.Effects.{woken, placeAt, ownPrio, addressed, send, resend, forward, giveBack, waits}
 use Rattle.paper.specs.Refusals.{Test, no3, no4, no5, no6, no7, ownRow, Go, lowest}
 use Rattle.linked.specs.Sound.{Pointers}
-use Rattle.linked.specs.Linked.{Numbered}
 use Rattle.linked.proofs.Running.{runner-says}
 use Rattle.kept.specs.Settled.{Settled}
 use Rattle.kept.specs.Touched.{IntoQueue, changed, queuesAfter}

@@ -18,7 +18,7 @@ use Rattle.board.specs.declared.records.Task.{Task}
 use Rattle.board.specs.declared.records.Message.{Message}
 use Rattle.board.specs.declared.places.Place.{Place}
 use Rattle.board.specs.declared.places.Place.the-variants.{Free, HeldBy, QueuedAt, Nowhere}
-use Rattle.board.specs.Numbers.{outside, taskNo}
+use Rattle.board.specs.Numbers.{outside, taskNo, Numbered}
 use Rattle.board.specs.Records.{Byte, noTask, noMessage}
 use Rattle.board.specs.Places.{placeOf, placeByte, isFree, isHeldBy, isQueuedAt}
 use Rattle.board.specs.Board.{Board, nth, put, task, message, place, withFirst, withTasks, withMessages, withPlaces, withTask, withMessage, withPlace}
@@ -27,7 +27,7 @@ use Rattle.board.proofs.Pieces.{outside-within, neither}
 use Rattle.paper.specs.Rules.{isThere, present, order, queue}
 use Rattle.paper.specs.Effects.{lowestFree}
 use Rattle.paper.specs.Refusals.{Test, no3, no4, no5, no6, no7Install, no8, no9, no10, no11, Verdict, Go, Stop, lowest}
-use Rattle.linked.specs.Linked.{Listing, Numbered}
+use Rattle.linked.specs.Linked.{Listing}
 use Rattle.linked.specs.Sound.{Proper, PlaceGood}
 use Rattle.linked.proofs.Tests.{says-isQueuedAt, says-isHeldBy}
 use Rattle.linked.proofs.Listings.{listing-walk}

@@ -11,12 +11,12 @@ use Rattle.links.proofs.Relinks.{relink-chain}
 use Rattle.board.specs.declared.numbers.Size.{Size}
 use Rattle.board.specs.declared.records.Task.{Task}
 use Rattle.board.specs.declared.records.Message.{Message}
+use Rattle.board.specs.Numbers.{Numbered}
 use Rattle.board.specs.Records.{Word, noMessage, taskWithMptr, withLink}
 use Rattle.board.specs.Board.{Board, nth, put, task, message, withMessages, withTask}
 use Rattle.board.proofs.Numbered.{nth-put, nth-put-other, nth-alike, length-put}
 use Rattle.paper.specs.Rules.{nextMessage}
 use Rattle.paper.specs.Changes.{linkMessage, withMptr, withQueue}
-use Rattle.linked.specs.Linked.{Numbered}
 use Rattle.kept.specs.Settled.{FitsTask, Fits}
 use Rattle.kept.proofs.Reading.{task-alike, fits-task, fits-message, relink-keeps, first-holds, relink-holds}
 

@@ -21,7 +21,7 @@ use Rattle.board.specs.declared.records.Task.{Task}
 use Rattle.board.specs.declared.records.Message.{Message}
 use Rattle.board.specs.declared.places.Place.{Place}
 use Rattle.board.specs.declared.places.Place.the-variants.{HeldBy, QueuedAt}
-use Rattle.board.specs.Numbers.{taskNo}
+use Rattle.board.specs.Numbers.{taskNo, Numbered}
 use Rattle.board.specs.Status.{MHBS, has, number}
 use Rattle.board.specs.Records.{noTask, taskWithMptr, withLink}
 use Rattle.board.specs.Places.{placeByte, isQueuedAt, isQueued}
@@ -33,7 +33,6 @@ use Rattle.paper.specs.Rules.{present, nextMessage, messageNumber, queue, runni
 use Rattle.paper.specs.Changes.{clears, withQueue, hold, takeFirst}
 use Rattle.paper.specs.Effects.{emptied, cancelMessage}
 use Rattle.paper.specs.Refusals.{no3, no4, no6, no12, no13, ownRow, Go, lowest}
-use Rattle.linked.specs.Linked.{Numbered}
 use Rattle.linked.specs.Sound.{PlaceGood}
 use Rattle.linked.proofs.Tests.{says-isQueuedAt}
 use Rattle.linked.proofs.Running.{placed-numbered, runner-says}

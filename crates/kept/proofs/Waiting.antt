@@ -13,7 +13,7 @@ use Rattle.board.specs.declared.numbers.Size.{Size}
 use Rattle.board.specs.declared.status.Status.{Status}
 use Rattle.board.specs.declared.records.Task.{Task}
 use Rattle.board.specs.declared.places.Place.the-variants.{QueuedAt}
-use Rattle.board.specs.Numbers.{taskNo}
+use Rattle.board.specs.Numbers.{taskNo, Numbered}
 use Rattle.board.specs.Status.{WAIT, IWAT, MHBS, TCBB, has, withBit, withoutBit}
 use Rattle.board.specs.Records.{taskWithStat}
 use Rattle.board.specs.Board.{Board, task, place}
@@ -23,7 +23,7 @@ use Rattle.paper.specs.Rules.{present, nextMessage, emptyQueue, running}
 use Rattle.paper.specs.Changes.{sets, clears}
 use Rattle.paper.specs.Effects.{woken, waits, emptied}
 use Rattle.paper.specs.Refusals.{no3, ownRow, Go, lowest}
-use Rattle.linked.specs.Linked.{Numbered, Linked}
+use Rattle.linked.specs.Linked.{Linked}
 use Rattle.linked.specs.Sound.{Flags}
 use Rattle.linked.proofs.Running.{present-numbered, runner-says}
 use Rattle.kept.specs.Settled.{Settled}

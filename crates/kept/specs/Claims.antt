@@ -14,6 +14,7 @@ use mathlib.Core.List.{List, [], _∷_}
 use Prim.Native.Nat.{ℕ, _≤_, _<_}
 use lib.ListN.{getD}
 use Rattle.board.specs.declared.numbers.Size.{Size}
+use Rattle.board.specs.Numbers.{Numbered}
 use Rattle.board.specs.Status.{MHBS, has}
 use Rattle.board.specs.Records.{Byte}
 use Rattle.board.specs.Board.{Board, boardOf, task}
@@ -25,7 +26,6 @@ use Rattle.paper.specs.Rules.{queue, running, passes}
 use Rattle.paper.specs.Changes.{clears, takeFirst}
 use Rattle.paper.specs.Refusals.{ownRow, Go, lowest}
 use Rattle.paper.specs.Outcomes.{body, effect}
-use Rattle.linked.specs.Linked.{Numbered}
 use Rattle.linked.specs.Claims.{Whereabouts}
 use Rattle.kept.specs.Settled.{Settled, Fitting}
 use Rattle.kept.specs.Touched.{touched, orderAfter, queuesAfter, queueOf, relinks, Frame}

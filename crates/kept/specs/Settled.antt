@@ -12,12 +12,12 @@ use Rattle.links.specs.Chain.{All}
 use Rattle.board.specs.declared.numbers.Size.{Size}
 use Rattle.board.specs.declared.records.Task.{Task}
 use Rattle.board.specs.declared.records.Message.{Message}
+use Rattle.board.specs.Numbers.{Numbered}
 use Rattle.board.specs.Records.{Byte, Word}
 use Rattle.board.specs.Places.{placeOf, placeByte}
 use Rattle.board.specs.Board.{Board, task, message, place}
 use Rattle.paper.specs.declared.call.Call.{Call}
 use Rattle.paper.specs.Arguments.{argumentsOf}
-use Rattle.linked.specs.Linked.{Numbered}
 use Rattle.linked.specs.Sound.{Regular, Flags}
 
 pub record FitsTask (t : Task) : Type 0 where

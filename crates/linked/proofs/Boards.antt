@@ -15,12 +15,12 @@ use Rattle.board.specs.declared.numbers.Size.{Size}
 use Rattle.board.specs.declared.numbers.TaskNo.{TaskNo}
 use Rattle.board.specs.declared.places.Place.{Place}
 use Rattle.board.specs.declared.places.Place.the-variants.{Free, HeldBy, QueuedAt, Nowhere}
-use Rattle.board.specs.Numbers.{taskNo}
+use Rattle.board.specs.Numbers.{taskNo, Numbered}
 use Rattle.board.specs.Records.{noTask}
 use Rattle.board.specs.Places.{isQueuedAt}
 use Rattle.board.specs.Board.{Board, task, place}
 use Rattle.paper.specs.Rules.{isThere, present, nextMessage, order, queue, passes}
-use Rattle.linked.specs.Linked.{Numbered, Linked}
+use Rattle.linked.specs.Linked.{Linked}
 use Rattle.linked.specs.Sound.{PlaceGood, Sound}
 use Rattle.linked.specs.Claims.{Whereabouts, free, held, queued}
 use Rattle.linked.proofs.Says.{Says, _&_, says-zero, says-not, says-each}

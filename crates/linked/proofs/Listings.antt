@@ -1,54 +1,35 @@
 -- Links that list the records that pass a test: the test of R3 and R5 says so, for tasks and messages alike.
 -- Assumes nothing.
-use mathlib.Core.Path.{_≡_, refl, sym, ap, _∙_}
+use mathlib.Core.Path.{_≡_}
 use mathlib.Core.Logic.{_↔_, Iff·symm, Iff·trans}
-use mathlib.Core.Bool.{Bool, true, false, true≢false}
+use mathlib.Core.Bool.{Bool, true, false}
 use mathlib.Core.List.{List}
-use Prim.Native.Nat.{ℕ, zero, suc, _-_, _≤_}
+use Prim.Native.Nat.{ℕ, _≤_}
 use native.Mathlib.Omega.{arith}
 use lib.ListN.{length}
 use Rattle.links.specs.Queue.{walk, which, lists}
 use Rattle.links.specs.Chain.{In}
 use Rattle.links.proofs.Members.{all-of, pigeon}
 use Rattle.links.proofs.Chains.{chain-once}
-use Rattle.links.proofs.Exactly.{rearranged-in, once-rearranged, in-which, which-in, which-once}
+use Rattle.links.proofs.Exactly.{rearranged-in, once-rearranged, which-once}
 use Rattle.links.proofs.Listed.{lists-chain, chain-lists}
-use Rattle.board.specs.Numbers.{outside}
 use Rattle.board.specs.Board.{nth}
-use Rattle.board.proofs.Pieces.{outside-within, nth-outside}
-use Rattle.linked.specs.Linked.{Listing, Numbered}
+use Rattle.paper.proofs.Which.{nth-numbered, which-nth}
+use Rattle.linked.specs.Linked.{Listing}
 use Rattle.linked.proofs.Says.{Says}
 
 -- records numbered from 1 and a test that the record none fails
 module _ {A : Type 0} (none : A) (f : A → Bool) (l : List A) (fails : f none ≡ false) where
-  -- ---- the numbers of those that pass
-  -- each is the number of a record
-  pub nth-numbered : (y : ℕ) → f (nth none l y) ≡ true → Numbered (length l) y
-  nth-numbered y e = step (outside (length l) y) refl
-    where
-      step : (t : Bool) → outside (length l) y ≡ t → Numbered (length l) y
-      step true o = absurd (true≢false (sym e ∙ ap f (nth-outside none l y o) ∙ fails))
-      step false o = outside-within (length l) y o
-
-  -- `which` has just these
-  pub which-nth : (y : ℕ) → In y (which f 1 l) ↔ (f (nth none l y) ≡ true)
-  which-nth zero = ((λ i. absurd (omega (arith, in-which none f 1 0 l i .0))), λ e. absurd (true≢false (sym e ∙ fails)))
-  which-nth (suc y) =
-      let e : suc y - 1 ≡ y = omega arith in (
-        (λ i. rw e at (in-which none f 1 (suc y) l i .2)),
-        λ h. which-in none f 1 (suc y) l (omega arith) (omega (arith, nth-numbered (suc y) h .1)) (rw e h),
-      )
-
   -- no more than there are records
   which-length : length (which f 1 l) ≤ length l
   which-length =
-      pigeon (length l) (which f 1 l) (which-once f 1 l) (all-of _ (which f 1 l) (λ y i. nth-numbered y (which-nth y .0 i)))
+      pigeon (length l) (which f 1 l) (which-once f 1 l) (all-of _ (which f 1 l) (λ y i. nth-numbered none f l fails y (which-nth none f l fails y .0 i)))
 
   -- ---- links that list them, where Member says what the test says of a record
   module _ {Member : ℕ → Type 0} (same : (y : ℕ) → Says (f (nth none l y)) (Member y)) where
     -- `which` has just the members
     which-member : (y : ℕ) → In y (which f 1 l) ↔ Member y
-    which-member y = Iff·trans (which-nth y) (same y)
+    which-member y = Iff·trans (which-nth none f l fails y) (same y)
 
     -- with fuel for all records
     module _ {next number : ℕ → ℕ} {n x : ℕ} (fuel : length l ≤ n) where

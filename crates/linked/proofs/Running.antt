@@ -15,16 +15,16 @@ use Rattle.links.proofs.Exactly.{in-which}
 use Rattle.board.specs.declared.numbers.Size.{Size}
 use Rattle.board.specs.declared.status.Status.{Status}
 use Rattle.board.specs.declared.places.Place.the-variants.{Free}
+use Rattle.board.specs.Numbers.{Numbered}
 use Rattle.board.specs.Status.{WAIT, IWAT, has, isPresent}
 use Rattle.board.specs.Records.{noTask}
 use Rattle.board.specs.Places.{isFree}
 use Rattle.board.specs.Board.{Board, nth, task, place}
 use Rattle.paper.specs.Rules.{isThere, present, order, ready, running}
 use Rattle.paper.specs.Effects.{lowestFree}
-use Rattle.linked.specs.Linked.{Numbered}
 use Rattle.linked.proofs.Says.{says-never}
 use Rattle.linked.proofs.Tests.{says-isFree}
-use Rattle.linked.proofs.Listings.{nth-numbered, which-nth}
+use Rattle.paper.proofs.Which.{nth-numbered, which-nth}
 
 -- ---- numbers of the board
 -- a present task is numbered

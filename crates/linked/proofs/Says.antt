@@ -8,7 +8,7 @@ use lib.Dec.{eqb, leb, ltb}
 use borrow.Author.Tests.{eqb-true, eq-eqb, leb-true, le-leb, ltb-true, lt-ltb}
 use Rattle.links.specs.Queue.{each}
 use Rattle.links.proofs.Bools.{both, and-true, each-at, each-all}
-use Rattle.linked.specs.Linked.{Numbered}
+use Rattle.board.specs.Numbers.{Numbered}
 
 -- the test t passes exactly if P holds
 abbrev pub Says : Bool → Type 0 → Type 0

@@ -12,11 +12,11 @@ use Prim.Native.Nat.{ℕ, _≤_}
 use Rattle.links.specs.Chain.{In, Out, Once}
 use Rattle.board.specs.declared.numbers.Size.{Size}
 use Rattle.board.specs.declared.places.Place.the-variants.{Free, HeldBy, QueuedAt}
-use Rattle.board.specs.Numbers.{taskNo}
+use Rattle.board.specs.Numbers.{taskNo, Numbered}
 use Rattle.board.specs.Records.{noMessage}
 use Rattle.board.specs.Board.{Board, boardOf, message, place}
 use Rattle.paper.specs.Rules.{present, order, queue, passes}
-use Rattle.linked.specs.Linked.{Numbered, Linked}
+use Rattle.linked.specs.Linked.{Linked}
 use Rattle.linked.specs.Sound.{Sound}
 
 -- a board has no more tasks than messages, so that one limit serves both kinds of walk

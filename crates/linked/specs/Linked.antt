@@ -1,6 +1,5 @@
 -- A board and plain lists: the task queue as one list, the queue of each task as one. A reader must believe this file.
 --   Listing next number x q Member   the links from x list q: exactly those of which Member holds, in the order of priority numbers
---   Numbered n k                     k is a number from 1 to n
 --   Linked z b order queues          the links of the board b list the tasks as order and the messages of task k as queues k
 -- Assumes nothing.
 use mathlib.Core.Path.{_≡_}
@@ -11,7 +10,7 @@ use Prim.Native.Nat.{ℕ, _≤_}
 use Rattle.links.specs.Chain.{In, Sorted, Chain}
 use Rattle.board.specs.declared.numbers.Size.{Size}
 use Rattle.board.specs.declared.places.Place.the-variants.{QueuedAt}
-use Rattle.board.specs.Numbers.{taskNo}
+use Rattle.board.specs.Numbers.{taskNo, Numbered}
 use Rattle.board.specs.Board.{Board, task, place}
 use Rattle.paper.specs.Rules.{present, nextTask, nextMessage, taskNumber, messageNumber}
 
@@ -20,9 +19,6 @@ pub record Listing (next number : ℕ → ℕ) (x : ℕ) (q : List ℕ) (Member 
   pub chain : Chain next x q
   pub exact : (y : ℕ) → In y q ↔ Member y
   pub sorted : Sorted number q
-
-abbrev pub Numbered : ℕ → ℕ → Type 0
-Numbered n k = (1 ≤ k) × (k ≤ n)
 
 -- R3 and R5
 pub record Linked (z : Size) (b : Board) (order : List ℕ) (queues : ℕ → List ℕ) : Type 0 where

@@ -18,11 +18,12 @@ use Rattle.board.specs.declared.records.Task.{Task}
 use Rattle.board.specs.declared.records.Message.{Message}
 use Rattle.board.specs.declared.places.Place.{Place}
 use Rattle.board.specs.declared.places.Place.the-variants.{Free, HeldBy, QueuedAt, Nowhere}
+use Rattle.board.specs.Numbers.{Numbered}
 use Rattle.board.specs.Status.{WAIT, IWAT, BIT5, INTQ, MHBS, TCBB, has, fifo}
 use Rattle.board.specs.Records.{noTask, noMessage}
 use Rattle.board.specs.Board.{Board, task, message, place}
 use Rattle.paper.specs.Rules.{present, ready}
-use Rattle.linked.specs.Linked.{Numbered, Linked}
+use Rattle.linked.specs.Linked.{Linked}
 
 pub record Proper (t : Task) : Type 0 where
   pub there : has (t .stat) TCBB ≡ true

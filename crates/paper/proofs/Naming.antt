@@ -18,6 +18,7 @@ use Rattle.links.proofs.Exactly.{rearranged-in, which-once}
 use Rattle.links.proofs.Listed.{lists-parts, lists-fails}
 use Rattle.board.specs.declared.numbers.Size.{Size}
 use Rattle.board.specs.declared.places.Place.the-variants.{Free}
+use Rattle.board.specs.Numbers.{Numbered}
 use Rattle.board.specs.Records.{noTask}
 use Rattle.board.specs.Status.{MHBS, has}
 use Rattle.board.specs.Places.{isQueuedAt}
@@ -35,7 +36,7 @@ use Rattle.paper.specs.Rules.{rule1, rule2At, rule3, rule4At, rule5At, r
 use Rattle.paper.specs.Named.{unless, brokenRule}
 use Rattle.paper.specs.Refusals.{Test, no1, no2, ownRow, Verdict, lowest}
 use Rattle.paper.specs.Outcomes.{Outcome, accepted, judge, dispatch, body}
-use Rattle.paper.specs.Claims.{Given, Names, VerdictStays, Within, BrokenAt, NoLater, LowestIsNamed}
+use Rattle.paper.specs.Claims.{Given, Names, VerdictStays, BrokenAt, NoLater, LowestIsNamed}
 use Rattle.paper.specs.Claims.{Fault, NoEnd, Meets, Misses, Falls, WrongQueue, RuleOnlyWith2}
 use Rattle.paper.proofs.Rows.{rules-kept, rule-broken}
 use Rattle.paper.proofs.Theorems.{ascends, in-above, row-ascends, lowest-is-given, ruleAt, at-rule, number-2, others-told}
@@ -88,7 +89,7 @@ verdict-stays z l = let b = boardOf z l in let c = running z b in let (calls, ch
 
 -- ---- the lowest rule is named, with the smallest record
 -- a rule has a number from 1 to 7
-pub rule-number : (r : Rule) → Within 7 (ruleNumber r)
+pub rule-number : (r : Rule) → Numbered 7 (ruleNumber r)
 rule-number R1 = (lit≤ tt, lit≤ tt)
 rule-number (R2 k) = (lit≤ tt, lit≤ tt)
 rule-number R3 = (lit≤ tt, lit≤ tt)
@@ -146,13 +147,13 @@ module _ (z : Size) (b : Board) where
 
 -- R2, R4, R5 and R6 alike
 smallest : (f : ℕ → Bool) (n : ℕ) → each f n ≡ false → let k = smallestFailing f n in
-    (Within n k × (f k ≡ false)) × ((i : ℕ) → Within n i × (f i ≡ false) → k ≤ i)
+    (Numbered n k × (f k ≡ false)) × ((i : ℕ) → Numbered n i × (f i ≡ false) → k ≤ i)
 smallest f n e = ((smallest-one f n e, smallest-fails f n e), λ i (w, g). smallest-least f n e i (w .0) g)
 
 -- R7 names a task: a number outside the board is due no message
-running-within : (z : Size) (l : List ℕ) → let b = boardOf z l in rule7 z b ≡ false → Within (z .tasks) (running z b)
+running-within : (z : Size) (l : List ℕ) → let b = boardOf z l in rule7 z b ≡ false → Numbered (z .tasks) (running z b)
 running-within z l e = let b = boardOf z l in
-    subst (λ (n : ℕ). Within n (running z b)) (length-tasks z l)
+    subst (λ (n : ℕ). Numbered n (running z b)) (length-tasks z l)
     (nth-numbered noTask (λ t. has (t .stat) MHBS) (b .tasks) refl (running z b) (not-false _ e))
 
 pub lowest-is-named : LowestIsNamed
@@ -219,7 +220,7 @@ no-record q i none e = step (ℕ-discrete (numberOf q) 2)
 pub rule-only-with-2 : RuleOnlyWith2
 rule-only-with-2 (Accepted v c m) = ((λ e. absurd (omega arith)), (λ n. refl), (λ e. refl), (λ e. refl), λ e. refl)
 rule-only-with-2 (Refused q) = (
-  (λ two. let (r, is) = number-2 q two in subst (λ (x : Refusal). Within 7 (told x .rule)) (sym is) (rule-number r)),
+  (λ two. let (r, is) = number-2 q two in subst (λ (x : Refusal). Numbered 7 (told x .rule)) (sym is) (rule-number r)),
   (λ other. others-told q other .0),
   no-record q 0 (λ n. refl),
   no-record q 1 (λ n. refl),

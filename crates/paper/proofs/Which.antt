@@ -10,17 +10,16 @@ use lib.ListN.{length}
 use Rattle.links.specs.Queue.{which}
 use Rattle.links.specs.Chain.{In}
 use Rattle.links.proofs.Exactly.{in-which, which-in}
-use Rattle.board.specs.Numbers.{outside}
+use Rattle.board.specs.Numbers.{outside, Numbered}
 use Rattle.board.specs.Board.{nth}
 use Rattle.board.proofs.Pieces.{outside-within, nth-outside}
-use Rattle.paper.specs.Claims.{Within}
 
 module _ {A : Type 0} (none : A) (f : A → Bool) (l : List A) (fails : f none ≡ false) where
   -- each is the number of a record
-  pub nth-numbered : (y : ℕ) → f (nth none l y) ≡ true → Within (length l) y
+  pub nth-numbered : (y : ℕ) → f (nth none l y) ≡ true → Numbered (length l) y
   nth-numbered y e = step (outside (length l) y) refl
     where
-      step : (t : Bool) → outside (length l) y ≡ t → Within (length l) y
+      step : (t : Bool) → outside (length l) y ≡ t → Numbered (length l) y
       step true o = absurd (true≢false (sym e ∙ ap f (nth-outside none l y o) ∙ fails))
       step false o = outside-within (length l) y o
 

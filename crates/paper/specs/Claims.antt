@@ -22,7 +22,7 @@ use lib.ListN.{length}
 use Rattle.links.specs.Queue.{ends, rising}
 use Rattle.links.specs.Chain.{In, Out}
 use Rattle.board.specs.declared.numbers.Size.{Size}
-use Rattle.board.specs.Numbers.{small}
+use Rattle.board.specs.Numbers.{small, Numbered}
 use Rattle.board.specs.Places.{isQueuedAt}
 use Rattle.board.specs.Board.{Board, total, boardOf, task, place}
 use Rattle.paper.specs.declared.call.Call.{Call}
@@ -86,17 +86,14 @@ VerdictStays =
     × (length l ≡ total z → passes z b ≡ true → check z l .answer ≡ Accepted 0 (running z b) 0)
 
 -- a rule is broken at the record that it names
-abbrev pub Within : ℕ → ℕ → Type 0
-Within last n = (1 ≤ n) × (n ≤ last)
-
 abbrev pub BrokenAt : Size → Board → Rule → Type 0
 BrokenAt z b R1 = rule1 b ≡ false
-BrokenAt z b (R2 k) = Within (z .tasks) (k .0) × (rule2At b (k .0) ≡ false)
+BrokenAt z b (R2 k) = Numbered (z .tasks) (k .0) × (rule2At b (k .0) ≡ false)
 BrokenAt z b R3 = rule3 z b ≡ false
-BrokenAt z b (R4 m) = Within (z .messages) (m .0) × (rule4At z b (m .0) ≡ false)
-BrokenAt z b (R5 k) = Within (z .tasks) (k .0) × (rule5At z b (k .0) ≡ false)
-BrokenAt z b (R6 k) = Within (z .tasks) (k .0) × (rule6At b (k .0) ≡ false)
-BrokenAt z b (R7 k) = Within (z .tasks) (k .0) × (k .0 ≡ running z b) × (rule7 z b ≡ false)
+BrokenAt z b (R4 m) = Numbered (z .messages) (m .0) × (rule4At z b (m .0) ≡ false)
+BrokenAt z b (R5 k) = Numbered (z .tasks) (k .0) × (rule5At z b (k .0) ≡ false)
+BrokenAt z b (R6 k) = Numbered (z .tasks) (k .0) × (rule6At b (k .0) ≡ false)
+BrokenAt z b (R7 k) = Numbered (z .tasks) (k .0) × (k .0 ≡ running z b) × (rule7 z b ≡ false)
 
 -- r is a lower rule than s, or the same with no greater record
 abbrev pub NoLater : Rule → Rule → Type 0

@@ -27,7 +27,7 @@ use Rattle.board.specs.Board.{Board, boardOf, placeArea, pieces, task}
 use Rattle.board.proofs.Codec.{length-places, place-free, place-held, place-receiver, place-nowhere}
 use Rattle.board.proofs.Pieces.{outside-within}
 use Rattle.paper.specs.Rules.{isThere, present, nextTask, nextMessage, taskNumber, messageNumber, rule3, rule5At}
-use Rattle.linked.proofs.Listings.{which-nth}
+use Rattle.paper.proofs.Which.{which-nth}
 use Rattle.queue_rules.specs.declared.Walked.the-variants.{Seen, Broken}
 use Rattle.queue_rules.specs.Walks.{visited, counted, queued, queuedAt, queueWalked, added, walked, saw}
 use Rattle.queue_rules.proofs.Visits.{every, orderly, visited-whole}

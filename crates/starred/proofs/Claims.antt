@@ -24,6 +24,7 @@ use Rattle.paper.specs.declared.answer.Refusal.the-variants.{WrongLength, RuleB
 use Rattle.paper.specs.Answers.{Handed, handed}
 use Rattle.paper.specs.Rules.{present, running, nextMessage, messageNumber, goodMessage, rule4At, rule5At, passes}
 use Rattle.paper.specs.Effects.{lowestFree}
+use Rattle.paper.specs.Named.{brokenRule}
 use Rattle.paper.specs.Refusals.{no3, test, lowest}
 use Rattle.paper.specs.Outcomes.{Outcome, accepted, undispatched, dispatch, judge, called, effect}
 use Rattle.paper.specs.History.{run}
@@ -156,7 +157,8 @@ right-length ps n =
 -- the claim's outcome, by its tests and the lowest free message
 abbrev claimed-by : List Place → Bool → Bool → Bool → ℕ → Outcome
 claimed-by ps t u w m =
-    judge (bytes ps) (lowest (test WrongLength (not t) ∷ test RuleBroken (not u) ∷ no3 1 ∷ test NoneFree w ∷ []))
+    judge (bytes ps)
+    (lowest (test WrongLength (not t) ∷ test (RuleBroken (brokenRule small (lone ps))) (not u) ∷ no3 1 ∷ test NoneFree w ∷ []))
     (dispatch small (bytes ps) (undispatched m (withPlace (lone ps) m held)))
 
 claim-gives : (ps : List Place) (i : ℕ) → length ps ≡ 128 → Few ps → lowestFree (lone ps) ≡ suc i

@@ -49,10 +49,10 @@ Holds r =
 
 -- ---- answers in the paper's numbers
 abbrev pub accepts : ℕ → ℕ → ℕ → Handed
-accepts v c m = record { number = 0; value = v; running = c; delivered = m }
+accepts v c m = record { number = 0; value = v; running = c; delivered = m; rule = 0; recordNo = 0 }
 
 abbrev pub refuses : ℕ → Handed
-refuses n = record { number = n; value = 0; running = 0; delivered = 0 }
+refuses n = record { number = n; value = 0; running = 0; delivered = 0; rule = 0; recordNo = 0 }
 
 -- ---- the rows, in the paper's order
 abbrev pub freshInstall : Row

@@ -11,7 +11,7 @@ use Rattle.links.specs.Chain.{In, Out}
 use Rattle.board.specs.declared.numbers.Size.{Size}
 use Rattle.board.specs.declared.records.Message.{Message}
 use Rattle.board.specs.declared.places.Place.the-variants.{QueuedAt}
-use Rattle.board.specs.Numbers.{outside, onBoard, taskNo}
+use Rattle.board.specs.Numbers.{outside, onBoard, taskNo, Numbered}
 use Rattle.board.specs.Status.{WAIT, IWAT, INTQ, MHBS, has}
 use Rattle.board.specs.Board.{Board, total, boardOf, task, withMessage, withPlace}
 use Rattle.board.specs.Writes.{putPlace}
@@ -20,7 +20,7 @@ use Rattle.board.proofs.Codec.{length-messages}
 use Rattle.paper.specs.Rules.{present, queue, emptyQueue}
 use Rattle.paper.specs.Changes.{sets, clears, hold, withQueue, takeFirst}
 use Rattle.paper.specs.Effects.{woken, placeAt, emptied, post, waitInterrupt, waits}
-use Rattle.linked.specs.Linked.{Linked, Numbered}
+use Rattle.linked.specs.Linked.{Linked}
 use Rattle.kept.specs.Claims.{Sizes}
 use Rattle.kept.specs.Settled.{Settled}
 use Rattle.kept.proofs.Waiting.{task-numbered}

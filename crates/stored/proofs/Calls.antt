@@ -14,6 +14,7 @@ use Rattle.links.proofs.Members.{not-in-out}
 use Rattle.board.specs.declared.numbers.Size.{Size}
 use Rattle.board.specs.declared.records.Message.{Message}
 use Rattle.board.specs.declared.places.Place.the-variants.{Free}
+use Rattle.board.specs.Numbers.{Numbered}
 use Rattle.board.specs.Records.{noTask, noMessage}
 use Rattle.board.specs.Places.{isQueued}
 use Rattle.board.specs.Board.{Board, total, boardOf, task, message, withTask, withMessage, withPlace}
@@ -27,7 +28,6 @@ use Rattle.paper.specs.Changes.{hold}
 use Rattle.paper.specs.Effects.{placeAt, send, emptied, cancelMessage, waits, install, cancelTask, lowestFree, release}
 use Rattle.paper.specs.Refusals.{Test, no3, no4, no5, no6, no7, ownRow, Go, lowest}
 use Rattle.paper.specs.Outcomes.{Undispatched, undispatched, body}
-use Rattle.linked.specs.Linked.{Numbered}
 use Rattle.linked.proofs.Running.{runner-says}
 use Rattle.kept.specs.Claims.{Sizes}
 use Rattle.kept.specs.Settled.{Settled}

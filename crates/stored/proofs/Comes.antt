@@ -11,7 +11,7 @@ use Rattle.board.specs.declared.records.Task.{Task}
 use Rattle.board.specs.declared.records.Message.{Message}
 use Rattle.board.specs.declared.places.Place.{Place}
 use Rattle.board.specs.declared.places.Place.the-variants.{Free, HeldBy, QueuedAt}
-use Rattle.board.specs.Numbers.{taskNo}
+use Rattle.board.specs.Numbers.{taskNo, Numbered}
 use Rattle.board.specs.Records.{taskBytes, messageBytes}
 use Rattle.board.specs.Places.{placeBytes}
 use Rattle.board.specs.Board.{Board, total, boardOf, taskArea, messageArea, placeArea, withFirst, withTask, withMessage, withPlace}
@@ -19,7 +19,6 @@ use Rattle.board.specs.Writes.{putFirst, putTask, putMessage, putPlace}
 use Rattle.board.proofs.Pieces.{length-putIn}
 use Rattle.board.proofs.Written.{board-put-first, board-put-task, board-put-message, board-put-free, board-put-held, board-put-queued}
 use Rattle.paper.specs.Changes.{hold}
-use Rattle.linked.specs.Linked.{Numbered}
 use Rattle.stores.specs.Changes as changes
 
 -- the bytes l have the board's length and are the board b

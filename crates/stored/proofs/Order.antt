@@ -16,7 +16,7 @@ use Rattle.links.proofs.Chains.{chain-frame, walk-length}
 use Rattle.board.specs.declared.numbers.Size.{Size}
 use Rattle.board.specs.declared.numbers.TaskMeant.the-variants as meant
 use Rattle.board.specs.declared.records.Task.{Task}
-use Rattle.board.specs.Numbers.{outside, onBoard, taskMeant}
+use Rattle.board.specs.Numbers.{outside, onBoard, taskMeant, Numbered}
 use Rattle.board.specs.Status.{number}
 use Rattle.board.specs.Records.{taskWithLink}
 use Rattle.board.specs.Board.{Board, total, boardOf, withFirst, withTask}
@@ -26,7 +26,7 @@ use Rattle.board.proofs.Meant.{onBoard-most}
 use Rattle.board.proofs.Codec.{length-tasks, length-places}
 use Rattle.paper.specs.Rules.{nextTask, taskNumber, order}
 use Rattle.paper.specs.Changes.{linkTask, withOrder}
-use Rattle.linked.specs.Linked.{Numbered, Linked}
+use Rattle.linked.specs.Linked.{Linked}
 use Rattle.linked.proofs.Boards.{present-within, linked-walks}
 use Rattle.kept.proofs.Reading.{task-other}
 use Rattle.stores.specs.Moves as moves

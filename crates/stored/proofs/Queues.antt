@@ -18,7 +18,7 @@ use Rattle.board.specs.declared.numbers.Size.{Size}
 use Rattle.board.specs.declared.numbers.MessageMeant.the-variants as meant
 use Rattle.board.specs.declared.records.Message.{Message}
 use Rattle.board.specs.declared.places.Place.the-variants.{Free, QueuedAt}
-use Rattle.board.specs.Numbers.{outside, onBoard, taskNo, messageMeant}
+use Rattle.board.specs.Numbers.{outside, onBoard, taskNo, messageMeant, Numbered}
 use Rattle.board.specs.Status.{number, fifo, withFifo}
 use Rattle.board.specs.Records.{withLink, withPrio}
 use Rattle.board.specs.Places.{isQueuedAt}
@@ -29,9 +29,9 @@ use Rattle.board.proofs.Codec.{length-tasks, length-places}
 use Rattle.paper.specs.Rules.{nextMessage, messageNumber, queue}
 use Rattle.paper.specs.Changes.{linkMessage, withMptr, withQueue}
 use Rattle.paper.specs.Effects.{queueWith, woken, placeAt}
-use Rattle.linked.specs.Linked.{Numbered, Linked}
+use Rattle.linked.specs.Linked.{Linked}
 use Rattle.linked.proofs.Tests.{says-isQueuedAt}
-use Rattle.linked.proofs.Listings.{nth-numbered}
+use Rattle.paper.proofs.Which.{nth-numbered}
 use Rattle.linked.proofs.Boards.{linked-walks}
 use Rattle.kept.proofs.Reading.{message-put, message-other}
 use Rattle.stores.specs.Changes as changes
