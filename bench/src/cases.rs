@@ -63,11 +63,12 @@ fn checks() -> [Case; 6] {
 }
 
 /// Checks of full boards with a fault that is late to be found.
-fn refused_checks() -> [Case; 7] {
+fn refused_checks() -> [Case; 8] {
     let last = TaskNo::new(TASKS).expect("a task");
     let of_4 = |name, rule, record, fault: &dyn Fn(&mut Board)| refused(name, rule, record, queues_of_4(), fault);
     let cut_short = |b: &mut Board| set_word(b, message(word(b, last.queue_slot())).link_slot(), 0);
     let leads_back = |b: &mut Board| set_word(b, message(MESSAGES).link_slot(), 1);
+    let leads_to_itself = |b: &mut Board| set_word(b, message(MESSAGES).link_slot(), MESSAGES);
     let last_runs_and_is_due = |b: &mut Board| {
         TaskNo::all().for_each(|k| b[k.at()] |= Status::IWAT);
         b[last.at()] = Status::TCBB | Status::MHBS;
@@ -78,6 +79,7 @@ fn refused_checks() -> [Case; 7] {
         of_4("check, refused: R4 at the last of 128 messages", 4, MESSAGES, &|b| b[message(MESSAGES).rptr_at()] = 33),
         of_4("check, refused: R5 at the last of 32 queues of 4", 5, TASKS, &cut_short),
         refused("check, refused: R5, the queue of 128 leads back", 5, 2, queue_of_128(), &leads_back),
+        refused("check, refused: R5, behind a queue of 127 one leads back", 5, 31, queues_of_127_and_1(), &leads_to_itself),
         of_4("check, refused: R6 at the last of 32 tasks", 6, TASKS, &|b| b[last.at()] |= Status::WAIT),
         of_4("check, refused: R7, the last of 32 tasks runs", 7, TASKS, &last_runs_and_is_due),
     ]
@@ -162,6 +164,10 @@ fn queues_of_4() -> Board {
 
 fn queue_of_128() -> Board {
     sent(held(tasks(31), 128), 128, |_| 2)
+}
+
+fn queues_of_127_and_1() -> Board {
+    sent(held(tasks(31), 128), 128, |m| if m < 128 { 2 } else { 31 })
 }
 
 fn message(number: u16) -> MsgNo {

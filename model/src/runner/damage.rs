@@ -227,17 +227,18 @@ fn bad_queue(b: &mut Board, k: TaskNo, random: &mut Random) {
 /// R6: bits that never go together.
 fn bad_state(b: &mut Board, k: TaskNo, random: &mut Random) {
     install(b, k);
-    let pairs =
-        [(Status::WAIT, Status::IWAT), (Status::WAIT, Status::MHBS), (Status::IWAT, Status::INTQ), (Status::IWAT, Status::MHBS)];
-    let (one, other) = random.pick(&pairs);
-    k.set_status(b, k.status(b).with(one | other));
+    let bits =
+        [Status::WAIT | Status::IWAT, Status::WAIT | Status::MHBS, Status::IWAT | Status::INTQ, Status::IWAT | Status::MHBS];
+    k.set_status(b, k.status(b).with(random.pick(&bits)));
 }
 
 /// R7: the task has a message and is due it, and all others wait for an interrupt.
 fn due_while_it_runs(b: &mut Board, k: TaskNo) {
     install(b, k);
-    for other in TaskNo::all().filter(|other| other.is_present(b)).collect::<Vec<_>>() {
-        other.set_status(b, Status(Status::TCBB | Status::IWAT));
+    for other in TaskNo::all() {
+        if other.is_present(b) {
+            other.set_status(b, Status(Status::TCBB | Status::IWAT));
+        }
     }
     k.set_status(b, Status(Status::TCBB | Status::MHBS));
     if word(b, k.queue_slot()) != 0 {
