@@ -1,7 +1,8 @@
 //! The cases of the repository's `tests/cases` through the methods: what C and the proved program answer, this crate answers.
 //!
-//! A case is the length as a word, a call of nine bytes (kind, three words, STAT, PRIO; kind 0 checks the board, kind 254 makes it
-//! fresh) and the board. Its answer is a line: refusal, value, running, delivered, rule, record, and each byte that has changed.
+//! A case is the length as a word, a call of nine bytes (kind, three words, STAT, PRIO; kind 0 checks the board, kind 254 makes
+//! it fresh) and the board. Its answer is a line: refusal, value, running, delivered, rule, record, and each byte that has
+//! changed.
 use station::{Answer, Board, MsgNo, Prio, Refusal, Status, TaskNo};
 use std::{fmt::Write, path::Path, process::Command};
 

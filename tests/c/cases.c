@@ -1,7 +1,7 @@
-/* The cases of tests/cases through include/station.h and the static library, every call by its own wrapper, with guard bytes around the
- * board. It reads and writes what the program run_cases does: a case is the length as a word, a call of nine bytes (kind, three words,
- * STAT, PRIO; kind 0 checks the board, kind 254 makes it fresh) and the board; an answer is a line: refusal, value, running, delivered,
- * rule, record, and each byte that has changed. */
+/* The cases of tests/cases through include/station.h and the static library, every call by its own wrapper, with guard bytes
+ * around the board. It reads and writes what the program run_cases does: a case is the length as a word, a call of nine bytes
+ * (kind, three words, STAT, PRIO; kind 0 checks the board, kind 254 makes it fresh) and the board; an answer is a line: refusal,
+ * value, running, delivered, rule, record, and each byte that has changed. */
 #include <stdio.h>
 #include <string.h>
 
@@ -17,7 +17,8 @@ static int read_full(uint8_t *to, size_t n)
 
 static station_answer answer_to(const uint8_t *head, uint8_t *b, size_t n)
 {
-    uint16_t x = (uint16_t)(head[3] + 256 * head[4]), y = (uint16_t)(head[5] + 256 * head[6]), name = (uint16_t)(head[7] + 256 * head[8]);
+    uint16_t x = (uint16_t)(head[3] + 256 * head[4]), y = (uint16_t)(head[5] + 256 * head[6]);
+    uint16_t name = (uint16_t)(head[7] + 256 * head[8]);
     uint8_t stat = head[9], prio = head[10];
     switch (head[2]) {
     case 0: return station_look(b, n);

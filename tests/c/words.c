@@ -1,6 +1,6 @@
-/* What include/station.h says of its arguments and answers. A board of length 0 may have any pointer, NULL too, and every function refuses
- * it. A priority above 127 is as 127: install refuses it, and a message goes with its sender's own or not at all. A broken rule comes with
- * its record, and every rule has words of its own. */
+/* What include/station.h says of its arguments and answers. A board of length 0 may have any pointer, NULL too, and every
+ * function refuses it. A priority above 127 is as 127: install refuses it, and a message goes with its sender's own or not at
+ * all. A broken rule comes with its record, and every rule has words of its own. */
 #include <stdio.h>
 #include <string.h>
 
@@ -29,7 +29,8 @@ static void prio_bytes(void)
 {
     static const unsigned beyond[] = {128, 200, 255, 256, 300, 65536, (unsigned)-1};
     for (unsigned priority = 0; priority <= STATION_SENDERS_OWN; priority++)
-        hold(station_lifo(priority) == 2 * priority && station_fifo(priority) == 2 * priority + 1, "a PRIO byte has another priority");
+        hold(station_lifo(priority) == 2 * priority && station_fifo(priority) == 2 * priority + 1,
+             "a PRIO byte has another priority");
     for (size_t i = 0; i < sizeof beyond / sizeof *beyond; i++)
         hold(station_lifo(beyond[i]) == 0xFE && station_fifo(beyond[i]) == 0xFF, "a priority above 127 is not as 127");
 }
@@ -42,15 +43,16 @@ static void priority_above_127(void)
     station_install(board, sizeof board, 1, STATION_TCBB, station_fifo(5), 0, 0);
     uint16_t m = station_claim(board, sizeof board).value;
     station_prepare(board, sizeof board, m, 0, station_fifo(128), 1);
-    hold(station_return(board, sizeof board, m).refusal == STATION_BAD_PRIORITY, "a message with a priority above 127 is returned");
+    hold(station_return(board, sizeof board, m).refusal == STATION_BAD_PRIORITY,
+         "a message with a priority above 127 is returned");
     hold(station_send(board, sizeof board, m, 1).refusal == STATION_ACCEPTED && board[325] == station_fifo(5),
          "a message with a priority above 127 is not sent with its sender's own");
 }
 
 static int is(station_answer a, station_answer b)
 {
-    return a.refusal == b.refusal && a.value == b.value && a.running == b.running && a.delivered == b.delivered && a.rule == b.rule &&
-           a.record == b.record;
+    return a.refusal == b.refusal && a.value == b.value && a.running == b.running && a.delivered == b.delivered &&
+           a.rule == b.rule && a.record == b.record;
 }
 
 static station_answer broken(uint8_t rule, uint8_t record)

@@ -1,10 +1,11 @@
 #!/usr/bin/env python3
-"""Makes the damaged boards of the gate: every rule R1 to R7 broken alone in each way it can be, at the first, a middle and the last record,
-then boards that break several.
+"""Makes the damaged boards of the gate: every rule R1 to R7 broken alone in each way it can be, at the first, a middle and the
+last record, then boards that break several.
 
-Written from documents 01 and 02 (Ask 1) alone, with its own reading of the rules, so that the proved check is compared with something else.
-usage: damaged_boards.py CASES ANSWERS   (a case: length word, call of 9 bytes, board; an answer: a line of refusal, value, running,
-delivered, rule, record and each byte that changed)"""
+Written from documents 01 and 02 (Ask 1) alone, with its own reading of the rules, so that the proved check is compared with
+something else.
+usage: damaged_boards.py CASES ANSWERS   (a case: length word, call of 9 bytes, board; an answer: a line of refusal, value,
+running, delivered, rule, record and each byte that changed)"""
 import random
 import sys
 
@@ -82,7 +83,8 @@ def broken(b):
         return out
     for k in there:
         s, empty = stat[k], not placed[k]
-        if (s & WAIT and s & IWAT) or (s & WAIT and (not empty or s & MHBS)) or (s & IWAT and s & (INTQ | MHBS)) or (s & MHBS and empty):
+        waits_badly = s & WAIT and (s & (IWAT | MHBS) or not empty)
+        if waits_badly or (s & IWAT and s & (INTQ | MHBS)) or (s & MHBS and empty):
             out.add((6, k))
     first = running(b, order)
     if first and stat[first] & MHBS:
@@ -116,10 +118,11 @@ def swapped(one, other):
 
 
 def sound(t=same, m=same):
-    """Five tasks in the order 5, 2, 7, 32, 9: one runs with a queue, one waits, one is parked with a queue, one is due a message. Functions
-    t and m give the tasks and messages other numbers."""
+    """Five tasks in the order 5, 2, 7, 32, 9: one runs with a queue, one waits, one is parked with a queue, one is due a message.
+    Functions t and m give the tasks and messages other numbers."""
     b = bytearray(1476)
-    order = [(5, TCBB | DEBUG, 3), (2, TCBB | WAIT | INTQ, 21), (7, TCBB | IWAT | MROB, 21), (32, TCBB | MHBS, 0x33), (9, TCBB | INTQ, 0xFD)]
+    order = [(5, TCBB | DEBUG, 3), (2, TCBB | WAIT | INTQ, 21), (7, TCBB | IWAT | MROB, 21), (32, TCBB | MHBS, 0x33),
+             (9, TCBB | INTQ, 0xFD)]
     b[0] = t(5)
     for i, (k, s, p) in enumerate(order):
         at = task(t(k))
@@ -233,7 +236,7 @@ def spots(rule):
 
 
 def each_at_its_spots():
-    """Each damage to a record, with the numbers on the board so changed about that it comes to the first, a middle and the last one."""
+    """Each damage to a record, with the numbers on the board so exchanged that this is the first, a middle and the last one."""
     for i, (rule, record, _) in enumerate(damages()):
         for spot in spots(rule):
             swap = swapped(record, spot)
@@ -256,7 +259,7 @@ def of_the_full_board():
 
 
 def cases():
-    """Every board of the gate, with the rule and the record that it is to break, zeros for none, and None where any may be broken."""
+    """Every board of the gate, with the rule and the record to be named, zeros for none, and None where it may be any."""
     yield bytearray(1476), (0, 0)
     for base in (sound(), full(), one_queue()):
         yield base, (0, 0)
@@ -297,7 +300,8 @@ def main(cases_file, answers_file):
             if found:
                 emit(b, CHECK, "2 0 0 0 %d %d" % named(b))
             else:
-                order = walk(b, b[0], lambda k: task(k) + 2, {k for k in range(1, 33) if b[task(k)]}, lambda k: b[task(k) + 1] >> 1)
+                there = {k for k in range(1, TASKS + 1) if b[task(k)]}
+                order = walk(b, b[0], lambda k: task(k) + 2, there, lambda k: b[task(k) + 1] >> 1)
                 emit(b, CHECK, "0 0 %d 0 0 0" % running(b, order))
         for rule, record, changes in {way[0]: way for way in [*damages_of_no_record(), *damages()]}.values():
             for kind in CALLS:                              # every call says what the check does

@@ -1,8 +1,9 @@
 #!/usr/bin/env python3
-"""Makes the cases of the worked boards in document 01 that carry no star, with the answers that the document gives: message 0 and 129,
-boards of 1,475 and 1,477 bytes, task 33. For every call that takes such an argument, from a lone task 1 that holds message 1.
-usage: worked_boards.py CASES ANSWERS   (a case: length word, call of 9 bytes, board; an answer: a line of refusal, value, running,
-delivered, rule and record)"""
+"""Makes the cases of the worked boards in document 01 that carry no star, with the answers that the document gives: message 0
+and 129, boards of 1,475 and 1,477 bytes, task 33. For every call that takes such an argument, from a lone task 1 that holds
+message 1.
+usage: worked_boards.py CASES ANSWERS   (a case: length word, call of 9 bytes, board; an answer: a line of refusal, value,
+running, delivered, rule and record)"""
 import struct
 import sys
 
