@@ -107,12 +107,6 @@ sum-tight f g (suc n) h e k i j = go (eqb k (suc n)) refl (λ a b. sum-tight f g
         ap f r ∙ d ∙ ap g (sym r)
     go false q ih = let r = eqb-false k (suc n) q in ih (omega (arith, lower, last)) (omega (arith, r))
 
--- terms that are equal from 1 to n
-pub sums-equal : (f g : ℕ → ℕ) (n : ℕ) → ((k : ℕ) → 1 ≤ k → k ≤ n → f k ≡ g k) → sumTo f n ≡ sumTo g n
-sums-equal f g zero h = refl
-sums-equal f g (suc n) h =
-    ap₂ (λ (a b : ℕ). a + b) (sums-equal f g n (λ k i j. h k i (omega arith))) (h (suc n) (omega arith) (omega arith))
-
 -- ---- as many as the list of them is long
 counted-past : {A : Type 0} (none : A) (f : A → Bool) (x : A) (l : List A) (n : ℕ)
     → counted (λ k. f (nth none (x ∷ l) k)) (suc n) ≡ one (f x) + counted (λ k. f (nth none l k)) n

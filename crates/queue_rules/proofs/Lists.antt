@@ -3,7 +3,7 @@
 -- Assumes nothing.
 use mathlib.Core.Path.{_≡_, refl, sym, ap, ap₂, _∙_, subst}
 use mathlib.Core.Logic.{_↔_}
-use mathlib.Core.Bool.{Bool, true, false, cond, _&&_}
+use mathlib.Core.Bool.{Bool, true, false, cond, _&&_, true≢false}
 use mathlib.Core.List.{List, [], _∷_, map}
 use Prim.Native.Nat.{ℕ, zero, suc, _+_, _-_, _≤_, _<_}
 use native.Mathlib.Omega.{arith}
@@ -14,7 +14,7 @@ use Rattle.links.specs.Queue.{walk, ends, which, rearranged, rising, lists, eac
 use Rattle.links.specs.Chain.{In, Once, All}
 use Rattle.links.proofs.Bools.{both, and-true, each-at, each-all}
 use Rattle.links.proofs.Members.{all-of, once-length}
-use Rattle.links.proofs.Chains.{walk-chain, chain-once}
+use Rattle.links.proofs.Chains.{walk-chain, walk-length, chain-once}
 use Rattle.links.proofs.Exactly.{one, rearranged-in, rearranged-length, which-once}
 use Rattle.links.proofs.Listed.{lists-counted}
 use Rattle.board.specs.declared.numbers.Size.{Size}
@@ -28,10 +28,11 @@ use Rattle.board.proofs.Codec.{length-places, place-free, place-held, place-rec
 use Rattle.board.proofs.Pieces.{outside-within}
 use Rattle.paper.specs.Rules.{isThere, present, nextTask, nextMessage, taskNumber, messageNumber, rule3, rule5At}
 use Rattle.paper.proofs.Which.{which-nth}
+use Rattle.queue_rules.specs.declared.Walked.{Walked}
 use Rattle.queue_rules.specs.declared.Walked.the-variants.{Seen, Broken}
-use Rattle.queue_rules.specs.Walks.{visited, counted, queued, queuedAt, queueWalked, added, walked, saw}
-use Rattle.queue_rules.proofs.Visits.{every, orderly, visited-whole}
-use Rattle.queue_rules.proofs.Counting.{sumTo, sum-zero, sum-once, sum-tight, sums-equal, counted-which, counts-add}
+use Rattle.queue_rules.specs.Walks.{visited, counted, queued, queuedAt, queueWalked, behind, walkedOn, walked, saw}
+use Rattle.queue_rules.proofs.Visits.{every, orderly, visited-whole, orderly-moves}
+use Rattle.queue_rules.proofs.Counting.{sumTo, sum-zero, sum-once, sum-tight, counted-bound, counted-which, counts-add}
 
 -- ---- tests
 -- two tests that pass together are one
@@ -167,64 +168,128 @@ module _ (z : Size) (b : Board) where
       orderly-bound (nextMessage b) (messageNumber b) (queuedAt b k) (z .messages) (task b k .mptr) (placedAt k)
       (which-once (isQueuedAt k) 1 (b .places)) (belongs-at k)
 
+  abbrev seenAt : ℕ → ℕ
+  seenAt k = length (walkOf k)
+
+  abbrev atTask : ℕ → ℕ
+  atTask k = length (placedAt k)
+
+  -- a walk of at most n links that saw s
+  limited : (n k s : ℕ) → queueWalked b n k ≡ Seen s → n ≤ z .messages → (fine k ≡ true) × (s ≡ seenAt k)
+  limited n k s e h =
+      step (orderly next number (queuedAt b k) n x 0) refl (sym (visited-whole next number (queuedAt b k) n x) ∙ e)
+    where
+      next : ℕ → ℕ
+      next = nextMessage b
+
+      number : ℕ → ℕ
+      number = messageNumber b
+
+      x : ℕ
+      x = task b k .mptr
+
+      step : (t : Bool) → orderly next number (queuedAt b k) n x 0 ≡ t → cond t (Seen (length (walk next n x))) Broken ≡ Seen s
+          → (fine k ≡ true) × (s ≡ seenAt k)
+      step true o q =
+          let r = orderly-moves next number (queuedAt b k) n (z .messages) x 0 o (omega (arith, walk-length next n x)) in
+          (r .0, (let f : Seen (length (walk next n x)) ≡ Seen s = q in let g : s ≡ length (walk next n x) = cc in g) ∙ ap length (sym (r .1)))
+      step false o q = let f : _≡_ {A = ℕ} 0 1 = cc in absurd (omega arith)
+
+  -- and the other way round
+  enough : (n k : ℕ) → fine k ≡ true → seenAt k ≤ n → queueWalked b n k ≡ Seen (seenAt k)
+  enough n k e h =
+      let r = orderly-moves (nextMessage b) (messageNumber b) (queuedAt b k) (z .messages) n (task b k .mptr) 0 e h in
+      visited-whole (nextMessage b) (messageNumber b) (queuedAt b k) n (task b k .mptr)
+      ∙ ap₂ (λ (t : Bool) (q : List ℕ). cond t (Seen (length q)) Broken) (r .0) (r .1)
+
   -- all walks together
-  added-cond : (s t : Bool) (m n : ℕ)
-      → added (cond s (Seen m) Broken) (cond t (Seen n) Broken) ≡ cond (s && t) (Seen (m + n)) Broken
-  added-cond true true m n = refl
-  added-cond true false m n = refl
-  added-cond false t m n = refl
-
-  walked-is : (n : ℕ) → walked z b n ≡ cond (each fine n) (Seen (sumTo (λ k. length (walkOf k)) n)) Broken
+  walked-fine : (most : ℕ) → most ≤ z .messages → (n s : ℕ) → walked b most n ≡ Seen s
+      → (each fine n ≡ true) × (s ≡ sumTo seenAt n)
   unfolding walked
-  walked-is zero = refl
-  walked-is (suc n) =
-      ap₂ added (walked-is n)
-      (visited-whole (nextMessage b) (messageNumber b) (queuedAt b (suc n)) (z .messages) (task b (suc n) .mptr))
-      ∙ added-cond (each fine n) (fine (suc n)) (sumTo (λ k. length (walkOf k)) n) (length (walkOf (suc n)))
+  walked-fine most h zero s e = (refl, let f : Seen 0 ≡ Seen s = e in let g : s ≡ 0 = cc in g)
+  walked-fine most h (suc n) s e = step (walked b most n) refl e (walked-fine most h n)
+    where
+      inner : (r : ℕ) (w : Walked) → (each fine n ≡ true) × (r ≡ sumTo seenAt n) → queueWalked b (most - r) (suc n) ≡ w
+          → behind r w ≡ Seen s → (each fine (suc n) ≡ true) × (s ≡ sumTo seenAt (suc n))
+      inner r (Seen t) a g q =
+          let c = limited (most - r) (suc n) t g (omega arith) in
+          let d : s ≡ r + t = (let i : Seen (r + t) ≡ Seen s = q in let j : s ≡ r + t = cc in j) in
+          (and-true (each fine n) (fine (suc n)) (a .0) (c .0), omega (arith, a .1, c .1))
+      inner r Broken a g q = let i : _≡_ {A = ℕ} 0 1 = cc in absurd (omega arith)
 
-  -- they saw as many as are queued: then each saw what is queued there, and the other way round
-  sum-each : (n : ℕ) → each fine n && eqb (sumTo (λ k. length (walkOf k)) n) (sumTo (λ k. length (placedAt k)) n) ≡ true
-      → each (rule5At z b) n ≡ true
-  sum-each n e =
-      let s = both (each fine n) (eqb (sumTo (λ k. length (walkOf k)) n) (sumTo (λ k. length (placedAt k)) n)) e in
-      let t =
-      sum-tight (λ k. length (walkOf k)) (λ k. length (placedAt k)) n (λ k i j. fine-bound k (each-at fine n (s .0) k i j))
-      (eqb-true _ _ (s .1)) in
-      each-all (rule5At z b) n (λ k i j. rule5-at k ∙ and-true (fine k) _ (each-at fine n (s .0) k i j) (eq-eqb _ _ (t k i j)))
+      step : (w : Walked) → walked b most n ≡ w → walkedOn w (λ r. queueWalked b (most - r) (suc n)) ≡ Seen s
+          → ((r : ℕ) → walked b most n ≡ Seen r → (each fine n ≡ true) × (r ≡ sumTo seenAt n))
+          → (each fine (suc n) ≡ true) × (s ≡ sumTo seenAt (suc n))
+      step (Seen r) f q ih = inner r (queueWalked b (most - r) (suc n)) (ih r f) refl q
+      step Broken f q ih = let i : _≡_ {A = ℕ} 0 1 = cc in absurd (omega arith)
 
-  each-sum : (n : ℕ) → each (rule5At z b) n ≡ true
-      → each fine n && eqb (sumTo (λ k. length (walkOf k)) n) (sumTo (λ k. length (placedAt k)) n) ≡ true
-  each-sum n e =
-      let at : (k : ℕ) → 1 ≤ k → k ≤ n → (fine k ≡ true) × (eqb (length (walkOf k)) (length (placedAt k)) ≡ true) =
-      λ k i j. both (fine k) (eqb (length (walkOf k)) (length (placedAt k)))
-      (sym (rule5-at k) ∙ each-at (rule5At z b) n e k i j) in
-      and-true (each fine n) _ (each-all fine n (λ k i j. at k i j .0))
-      (eq-eqb _ _ (sums-equal (λ k. length (walkOf k)) (λ k. length (placedAt k)) n (λ k i j. eqb-true _ _ (at k i j .1))))
+  -- each queue is right: then they see what is queued, and may
+  right-walked : (most n : ℕ) → each (rule5At z b) n ≡ true → sumTo atTask n ≤ most → walked b most n ≡ Seen (sumTo atTask n)
+  unfolding walked
+  right-walked most zero e h = refl
+  right-walked most (suc n) e h =
+      let p = both (each (rule5At z b) n) (rule5At z b (suc n)) e in
+      let r = both (fine (suc n)) (eqb (seenAt (suc n)) (atTask (suc n))) (sym (rule5-at (suc n)) ∙ p .1) in
+      let q = eqb-true (seenAt (suc n)) (atTask (suc n)) (r .1) in
+      ap (λ (w : Walked). walkedOn w (λ s. queueWalked b (most - s) (suc n))) (right-walked most n (p .0) (omega arith))
+      ∙ ap (behind (sumTo atTask n)) (enough (most - sumTo atTask n) (suc n) (r .0) (omega arith))
+      ∙ ap (λ (m : ℕ). Seen (sumTo atTask n + m)) q
+
+  -- they saw as many as are queued: then each saw what is queued there
+  sum-each : (n : ℕ) → each fine n ≡ true → sumTo seenAt n ≡ sumTo atTask n → each (rule5At z b) n ≡ true
+  sum-each n e s =
+      let t = sum-tight seenAt atTask n (λ k i j. fine-bound k (each-at fine n e k i j)) s in
+      each-all (rule5At z b) n (λ k i j. rule5-at k ∙ and-true (fine k) _ (each-at fine n e k i j) (eq-eqb _ _ (t k i j)))
 
   -- the walks of all queues together saw as many as are queued
-  rule5-is : length (b .places) ≡ z .messages
-      → ((i : ℕ) → i < length (b .places) → (none : Place) → NamesTask z (getD (b .places) i none))
-      → saw (walked z b (z .tasks)) (counted (queued b) (z .messages)) ≡ each (rule5At z b) (z .tasks)
-  rule5-is e named =
-      let w = sumTo (λ k. length (walkOf k)) (z .tasks) in
-      let p = sumTo (λ k. length (placedAt k)) (z .tasks) in
-      ap₂ saw (walked-is (z .tasks))
-      (ap (counted (queued b)) (sym e) ∙ counted-which Free isQueued 1 (b .places)
-      ∙ sym (counts-add isQueuedAt isQueued (NamesTask z) (z .tasks) 1 (named-once z) (b .places) named))
-      ∙ saw-cond (each fine (z .tasks)) w p
-      ∙ alike (each fine (z .tasks) && eqb w p) (each (rule5At z b) (z .tasks)) (sum-each (z .tasks)) (each-sum (z .tasks))
+  module _ (m : ℕ) (e : m ≡ sumTo atTask (z .tasks)) (h : m ≤ z .messages) where
+    saw-right : saw (walked b m (z .tasks)) m ≡ true → each (rule5At z b) (z .tasks) ≡ true
+    saw-right = step (walked b m (z .tasks)) refl
+      where
+        step : (w : Walked) → walked b m (z .tasks) ≡ w → saw w m ≡ true → each (rule5At z b) (z .tasks) ≡ true
+        step (Seen s) f q =
+            let a = walked-fine m h (z .tasks) s f in
+            sum-each (z .tasks) (a .0) (sym (a .1) ∙ eqb-true s m q ∙ e)
+        step Broken f q = absurd (true≢false (sym q))
+
+    right-saw : each (rule5At z b) (z .tasks) ≡ true → saw (walked b m (z .tasks)) m ≡ true
+    right-saw q =
+        ap (λ (w : Walked). saw w m) (right-walked m (z .tasks) q (omega arith)) ∙ eq-eqb (sumTo atTask (z .tasks)) m (sym e)
+
+    rule5-is : saw (walked b m (z .tasks)) m ≡ each (rule5At z b) (z .tasks)
+    rule5-is = alike (saw (walked b m (z .tasks)) m) (each (rule5At z b) (z .tasks)) saw-right right-saw
 
 -- so of any bytes, where n is how many are queued
 pub rule5-counted : (z : Size) (l : List ℕ) (n : ℕ) → n ≡ counted (queued (boardOf z l)) (z .messages)
-    → saw (walked z (boardOf z l) (z .tasks)) n ≡ each (rule5At z (boardOf z l)) (z .tasks)
+    → saw (walked (boardOf z l) n (z .tasks)) n ≡ each (rule5At z (boardOf z l)) (z .tasks)
 rule5-counted z l n e =
-    ap (saw (walked z (boardOf z l) (z .tasks))) e ∙ rule5-is z (boardOf z l) (length-places z l) (places-named z l)
+    let b = boardOf z l in
+    rule5-is z b n
+    (e ∙ ap (counted (queued b)) (sym (length-places z l)) ∙ counted-which Free isQueued 1 (b .places)
+    ∙ sym (counts-add isQueuedAt isQueued (NamesTask z) (z .tasks) 1 (named-once z) (b .places) (places-named z l)))
+    (omega (arith, counted-bound (queued b) (z .messages)))
 
 -- and of one queue, where n is how many are queued at k
 pub rule5-one : (z : Size) (l : List ℕ) (k n : ℕ) → n ≡ counted (queuedAt (boardOf z l) k) (z .messages)
-    → saw (queueWalked z (boardOf z l) k) n ≡ rule5At z (boardOf z l) k
+    → saw (queueWalked (boardOf z l) n k) n ≡ rule5At z (boardOf z l) k
 rule5-one z l k n e =
-    let b = boardOf z l in
-    ap₂ saw (visited-whole (nextMessage b) (messageNumber b) (queuedAt b k) (z .messages) (task b k .mptr))
-    (e ∙ ap (counted (queuedAt b k)) (sym (length-places z l)) ∙ counted-which Free (isQueuedAt k) 1 (b .places))
-    ∙ saw-cond (fine z b k) (length (walkOf z b k)) (length (placedAt z b k)) ∙ sym (rule5-at z b k)
+    alike (saw (queueWalked b n k) n) (rule5At z b k) (saw-one (queueWalked b n k) refl) one-saw
+  where
+    b : Board
+    b = boardOf z l
+
+    q : n ≡ atTask z b k
+    q = e ∙ ap (counted (queuedAt b k)) (sym (length-places z l)) ∙ counted-which Free (isQueuedAt k) 1 (b .places)
+
+    saw-one : (w : Walked) → queueWalked b n k ≡ w → saw w n ≡ true → rule5At z b k ≡ true
+    saw-one (Seen s) f g =
+        let r = limited z b n k s f (omega (arith, e, counted-bound (queuedAt b k) (z .messages))) in
+        let d = eqb-true s n g in
+        rule5-at z b k ∙ and-true (fine z b k) _ (r .0) (eq-eqb _ _ (sym (r .1) ∙ d ∙ q))
+    saw-one Broken f g = absurd (true≢false (sym g))
+
+    one-saw : rule5At z b k ≡ true → saw (queueWalked b n k) n ≡ true
+    one-saw g =
+        let r = both (fine z b k) (eqb (seenAt z b k) (atTask z b k)) (sym (rule5-at z b k) ∙ g) in
+        let d = eqb-true (seenAt z b k) (atTask z b k) (r .1) in
+        ap (λ (w : Walked). saw w n) (enough z b n k (r .0) (omega (arith, d, q))) ∙ eq-eqb (seenAt z b k) n (d ∙ sym q)

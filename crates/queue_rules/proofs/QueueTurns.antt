@@ -119,12 +119,11 @@ module _ (z : Size) (l : List ℕ) (k : ℕ) where
       ∙ inv
 
   -- the whole walk, which starts at w
-  pub queue-empty : (w : ℕ) → w ≡ 0 → Seen 0 ≡ queueVisited b k (z .messages) w 0 0
-  queue-empty w e = sym (visited-end (nextMessage b) (messageNumber b) (queuedAt b k) (z .messages) w 0 0 e)
+  pub queue-empty : (n w : ℕ) → w ≡ 0 → Seen 0 ≡ queueVisited b k n w 0 0
+  queue-empty n w e = sym (visited-end (nextMessage b) (messageNumber b) (queuedAt b k) n w 0 0 e)
 
-  pub queue-beyond : (w : ℕ) → (w ≡ 0 → ⊥) → outside (z .messages) w ≡ true → Broken ≡ queueVisited b k (z .messages) w 0 0
-  queue-beyond w h o =
-      sym (visited-stray (nextMessage b) (messageNumber b) (queuedAt b k) (z .messages) w 0 0 h (nothing-there z l k w o))
+  pub queue-beyond : (n w : ℕ) → (w ≡ 0 → ⊥) → outside (z .messages) w ≡ true → Broken ≡ queueVisited b k n w 0 0
+  queue-beyond n w h o = sym (visited-stray (nextMessage b) (messageNumber b) (queuedAt b k) n w 0 0 h (nothing-there z l k w o))
 
 -- ---- one link, as link_from tells it
 abbrev pub turnAlong : MessageLink → ℕ → MessageTurn

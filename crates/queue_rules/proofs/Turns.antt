@@ -2,20 +2,18 @@
 -- Assumes nothing.
 use mathlib.Core.Path.{_≡_, refl, sym, ap, ap₂, _∙_}
 use mathlib.Core.Bool.{Bool, true, false, cond}
-use Prim.Native.Nat.{ℕ, zero, suc, _+_, _-_, _*_, _≤_, _<_}
-use native.Mathlib.Nat.{suc-mul, mul-le-mul-right}
+use Prim.Native.Nat.{ℕ, zero, suc, _+_, _-_, _≤_, _<_}
 use native.Mathlib.Decide.{ℕ-discrete}
 use native.Mathlib.Omega.{arith}
 use lib.Dec.{eqb}
 use borrow.Author.Tests.{eq-eqb, ne-eqb, le-leb, lt-leb}
 use Rattle.links.specs.Queue.{walk, firstWith}
 use Rattle.links.proofs.Chains.{walk-step, walk-end}
-use Rattle.board.specs.declared.numbers.Size.{Size}
 use Rattle.board.specs.Board.{Board, task}
 use Rattle.paper.specs.Rules.{nextMessage, messageNumber}
 use Rattle.queue_rules.specs.declared.Walked.{Walked}
 use Rattle.queue_rules.specs.declared.Walked.the-variants.{Seen, Broken}
-use Rattle.queue_rules.specs.Walks.{went, counted, queuedAt, queueWalked, added, walked}
+use Rattle.queue_rules.specs.Walks.{went, counted, queuedAt, queueWalked, behind, walkedOn, walked}
 use Rattle.queue_rules.proofs.Visits.{visited-bound}
 use Rattle.queue_rules.proofs.Counting.{counted-turn, counted-bound}
 
@@ -60,46 +58,40 @@ module _ {A : Type 0} (next number : ℕ → ℕ) (good : ℕ → Bool) (on : �
     turn-goes-on f = ap (λ (t : Bool). cond t end (on v n)) (sym (ne-eqb v 0 f)) ∙ went-on
 
 -- ---- the walks of all queues, one after the other
-added-broken : (w : Walked) → Broken ≡ added w Broken
-added-broken (Seen s) = refl
-added-broken Broken = refl
-
--- no queue yet
-pub walks-start : (z : Size) (b : Board) → walked z b 0 ≡ Seen 0
-unfolding walked
-walks-start z b = refl
-
--- the walk of one queue is broken, so all together are
-pub walks-break : (z : Size) (b : Board) (n k : ℕ) → k < n → Broken ≡ queueWalked z b (k + 1) → Broken ≡ walked z b n
-unfolding walked
-walks-break z b zero k h e = absurd (omega arith)
-walks-break z b (suc n) k h e = step (ℕ-discrete (k + 1) (suc n)) (λ i. walks-break z b n k i e)
-  where
-    step : Dec (k + 1 ≡ suc n) → (k < n → Broken ≡ walked z b n) → Broken ≡ added (walked z b n) (queueWalked z b (suc n))
-    step (yes i) ih = added-broken (walked z b n) ∙ ap (added (walked z b n)) (e ∙ ap (queueWalked z b) i)
-    step (no i) ih = ap (λ (w : Walked). added w (queueWalked z b (suc n))) (ih (omega arith))
-
--- one queue more, of which the walk saw n messages
-module _ (z : Size) (b : Board) (k s n : ℕ) (e : Seen n ≡ queueWalked z b (k + 1)) where
-  -- they are added
-  pub walks-on : walked z b k ≡ Seen s → walked z b (k + 1) ≡ Seen (s + n)
+module _ (b : Board) (most : ℕ) where
+  -- no queue yet
+  pub walks-start : walked b most 0 ≡ Seen 0
   unfolding walked
-  walks-on f = let i : k + 1 ≡ suc k = omega arith in ap (walked z b) i ∙ ap₂ added f (ap (queueWalked z b) (sym i) ∙ sym e)
+  walks-start = refl
 
-  -- no more than there are
-  pub walks-bound : s ≤ k * z .messages → s + n ≤ (k + 1) * z .messages
-  walks-bound h =
-      let i : k + 1 ≡ suc k = omega arith in
-      let m =
-      visited-bound (nextMessage b) (messageNumber b) (queuedAt b (k + 1)) (z .messages) (task b (k + 1) .mptr) n (sym e) in
-      omega (arith, m, ap (λ (j : ℕ). j * z .messages) i ∙ suc-mul k (z .messages))
+  -- behind k queues, whose walks saw s
+  module _ (k s : ℕ) (so : walked b most k ≡ Seen s) where
+    next-walked : walked b most (k + 1) ≡ behind s (queueWalked b (most - s) (k + 1))
+    unfolding walked
+    next-walked =
+        let i : k + 1 ≡ suc k = omega arith in
+        ap (walked b most) i ∙ ap (λ (w : Walked). walkedOn w (λ s. queueWalked b (most - s) (suc k))) so
+        ∙ ap (λ (j : ℕ). behind s (queueWalked b (most - s) j)) (sym i)
 
-  -- so the sum fits 32 bits
-  pub walks-fit : s ≤ k * z .messages → k < 65536 → z .messages < 65536 → s + n < 4294967296
-  walks-fit h i j =
-      let l : k + 1 ≤ 65536 = omega arith in
-      let d : (k + 1) * z .messages ≤ 65536 * z .messages = mul-le-mul-right (z .messages) l in
-      omega (arith, walks-bound h, d)
+    -- the walk of the next is broken, so all together are
+    pub walks-break : (n : ℕ) → k < n → Broken ≡ queueWalked b (most - s) (k + 1) → Broken ≡ walked b most n
+    unfolding walked
+    walks-break zero h e = absurd (omega arith)
+    walks-break (suc n) h e = step (ℕ-discrete (k + 1) (suc n)) (λ i. walks-break n i e)
+      where
+        step : Dec (k + 1 ≡ suc n) → (k < n → Broken ≡ walked b most n) → Broken ≡ walked b most (suc n)
+        step (yes i) ih = ap (behind s) e ∙ sym next-walked ∙ ap (walked b most) i
+        step (no i) ih = ap (λ (w : Walked). walkedOn w (λ s. queueWalked b (most - s) (suc n))) (ih (omega arith))
+
+    -- it saw n
+    module _ (n : ℕ) (e : Seen n ≡ queueWalked b (most - s) (k + 1)) where
+      pub walks-on : walked b most (k + 1) ≡ Seen (s + n)
+      walks-on = next-walked ∙ ap (behind s) (sym e)
+
+      -- no more than it may
+      pub walks-bound : s ≤ most → s + n ≤ most
+      walks-bound h =
+          omega (arith, visited-bound (nextMessage b) (messageNumber b) (queuedAt b (k + 1)) (most - s) (task b (k + 1) .mptr) n (sym e))
 
 -- ---- a walk for the first that passes, which is r
 module _ (f : ℕ → Bool) (next : ℕ → ℕ) (n x : ℕ) {r : ℕ} (inv : firstWith f (walk next n x) ≡ r) where

@@ -9,7 +9,8 @@ use lib.ListN.{length}
 use lib.Dec.{eqb, leb}
 use borrow.Author.Tests.{eq-eqb, ne-eqb, eqb-true, eqb-false}
 use Rattle.links.specs.Queue.{walk, ends, rising}
-use Rattle.links.proofs.Chains.{walk-length}
+use Rattle.links.proofs.Bools.{both, and-true}
+use Rattle.links.proofs.Chains.{walk-length, walk-chain, chain-walk}
 use Rattle.queue_rules.specs.declared.Walked.{Walked}
 use Rattle.queue_rules.specs.declared.Walked.the-variants.{Seen, Broken}
 use Rattle.queue_rules.specs.Walks.{went, visited}
@@ -124,6 +125,14 @@ module _ (next number : ℕ → ℕ) (good : ℕ → Bool) where
   visited-whole n x =
       let e : 0 + length (walk next n x) ≡ length (walk next n x) = omega arith in
       visited-is n x 0 0 ∙ ap (λ (m : ℕ). cond (orderly n x 0) (Seen m) Broken) e
+
+  -- a walk that is orderly is so with fewer links or more, as long as they are enough for what it sees
+  pub orderly-moves : (n m x low : ℕ) → orderly n x low ≡ true → length (walk next n x) ≤ m
+      → (orderly m x low ≡ true) × (walk next m x ≡ walk next n x)
+  orderly-moves n m x low e h =
+      let p = both (ends next n x) (every (walk next n x) && rising number low (walk next n x)) e in
+      let w = chain-walk next m x (walk next n x) (walk-chain next n x (p .0)) h in
+      (and-true (ends next m x) _ (w .1) (ap (λ (q : List ℕ). every q && rising number low q) (w .0) ∙ p .1), w .0)
 
   -- how many it saw
   abbrev seenIn : Walked → ℕ

@@ -4,8 +4,8 @@
 --   visited next number good n x low s a walk of at most n links from x that saw s before and met the priority number low last
 --   counted f n                        how many numbers from 1 to n pass f
 --   messageTurned z b k m low          one link of task k's queue; one that leads beyond the board leads astray
---   queueWalked z b k                  the walk of task k's queue
---   walked z b n                       the walks of the queues of tasks 1 to n, one after the other
+--   queueWalked b n k                  the walk of task k's queue, of at most n links
+--   walked b most n                    the walks of the queues of tasks 1 to n, one after the other, of at most so many links together
 --   saw w n                            a walk that ended and saw n
 --   Lengths b n t                      of the messages from 1 to n so many are queued at each task below 256, by its number in the table t
 --   breaking z f                       the smallest task that f is not true of, if any
@@ -13,7 +13,7 @@
 use mathlib.Core.Path.{_≡_}
 use mathlib.Core.Bool.{Bool, false, cond, _&&_}
 use mathlib.Core.List.{List}
-use Prim.Native.Nat.{ℕ, zero, suc, _+_, _<_}
+use Prim.Native.Nat.{ℕ, zero, suc, _+_, _-_, _<_}
 use lib.ListN.{getD}
 use lib.Dec.{eqb, leb}
 use Rattle.links.specs.Queue.{smallestFailing}
@@ -62,18 +62,21 @@ messageTurned z b k = went (nextMessage b) (messageNumber b) (queuedAt b k) (λ 
 abbrev pub queueVisited : Board → ℕ → ℕ → ℕ → ℕ → ℕ → Walked
 queueVisited b k = visited (nextMessage b) (messageNumber b) (queuedAt b k)
 
-abbrev pub queueWalked : Size → Board → ℕ → Walked
-queueWalked z b k = queueVisited b k (z .messages) (task b k .mptr) 0 0
+abbrev pub queueWalked : Board → ℕ → ℕ → Walked
+queueWalked b n k = queueVisited b k n (task b k .mptr) 0 0
 
--- one queue's walk added to those before it
-abbrev pub added : Walked → Walked → Walked
-added Broken w = Broken
-added (Seen s) Broken = Broken
-added (Seen s) (Seen n) = Seen (s + n)
+-- one queue's walk behind those before it
+abbrev pub behind : ℕ → Walked → Walked
+behind s Broken = Broken
+behind s (Seen n) = Seen (s + n)
 
-unfoldable pub walked : Size → Board → ℕ → Walked
-walked z b zero = Seen 0
-walked z b (suc k) = added (walked z b k) (queueWalked z b (suc k))
+abbrev pub walkedOn : Walked → (ℕ → Walked) → Walked
+walkedOn Broken next = Broken
+walkedOn (Seen s) next = behind s (next s)
+
+unfoldable pub walked : Board → ℕ → ℕ → Walked
+walked b most zero = Seen 0
+walked b most (suc k) = walkedOn (walked b most k) (λ s. queueWalked b (most - s) (suc k))
 
 abbrev pub saw : Walked → ℕ → Bool
 saw (Seen n) m = eqb n m

@@ -56,12 +56,11 @@ fn message_turn(z: Size, l: &[u8], k: TaskNo, m: MsgNo, low: u8) -> MessageTurn
     }
 }
 
-// The walk of task k's queue from its first message on.
-fn walk_from(z: Size, l: &[u8], k: TaskNo, first: MsgNo) -> Walked
+// The walk of task k's queue from its first message on. It gives up where it sees more than so many.
+fn walk_from(z: Size, l: &[u8], k: TaskNo, first: MsgNo, most: u32) -> Walked
     requires { ⌜ (total z ≤ length (now l)) × (outside (z .messages) (first .0) ≡ false) ⌝ }
-    ensures { λ res. ⌜ res ≡ queueVisited (boardOf z (now (l .entry))) (k .0) (z .messages) (first .0) 0 0 ⌝ }
+    ensures { λ res. ⌜ res ≡ queueVisited (boardOf z (now (l .entry))) (k .0) most (first .0) 0 0 ⌝ }
 {
-    let most = z.messages as u32;
     let mut m = first;
     let mut low: u8 = 0;
     let mut seen: u32 = 0;
@@ -94,9 +93,9 @@ fn saw(w: Walked, n: u16) -> bool
     seen == n as u32
 }
 
-fn walk_queue(z: Size, l: &[u8], k: TaskNo) -> Walked
+fn walk_queue(z: Size, l: &[u8], k: TaskNo, most: u32) -> Walked
     requires { ⌜ total z ≤ length (now l) ⌝ }
-    ensures { λ res. ⌜ res ≡ queueWalked z (boardOf z (now (l .entry))) (k .0) ⌝ }
+    ensures { λ res. ⌜ res ≡ queueWalked (boardOf z (now (l .entry))) most (k .0) ⌝ }
 {
     let t = task_at(z, l, k);
     if t.mptr == 0 {
@@ -106,13 +105,14 @@ fn walk_queue(z: Size, l: &[u8], k: TaskNo) -> Walked
     let MessageMeant::Message(first) = meant else {
         return Walked::Broken;
     };
-    walk_from(z, l, k, first)
+    walk_from(z, l, k, first, most)
 }
 
-// Every queue walked, and how many messages they saw together.
-fn walk_queues(z: Size, l: &[u8]) -> Walked
+// Every queue walked, and how many messages they saw together. Each may see no more than are left of those that are queued: links that
+// lead back are soon given up.
+fn walk_queues(z: Size, l: &[u8], queued: u32) -> Walked
     requires { ⌜ total z ≤ length (now l) ⌝ }
-    ensures { λ res. ⌜ res ≡ walked z (boardOf z (now (l .entry))) (z .tasks) ⌝ }
+    ensures { λ res. ⌜ res ≡ walked (boardOf z (now (l .entry))) queued (z .tasks) ⌝ }
 {
     let most = z.tasks;
     let mut k: u16 = 0;
@@ -121,7 +121,7 @@ fn walk_queues(z: Size, l: &[u8]) -> Walked
         k += 1;
         let meant = TaskNo::meant(z, k);
         if let TaskMeant::Task(j) = meant {
-            let one = walk_queue(z, l, j);
+            let one = walk_queue(z, l, j, queued - sum);
             let Walked::Seen(n) = one else {
                 return Walked::Broken;
             };
@@ -164,7 +164,8 @@ fn wrong_queue(z: Size, l: &[u8]) -> TaskMeant
         k += 1;
         let meant = TaskNo::meant(z, k);
         if let TaskMeant::Task(j) = meant {
-            if !saw(walk_queue(z, l, j), lengths[k as usize]) {
+            let n = lengths[k as usize];
+            if !saw(walk_queue(z, l, j, n as u32), n) {
                 return meant;
             }
         }
@@ -175,9 +176,9 @@ fn wrong_queue(z: Size, l: &[u8]) -> TaskMeant
 // R5, where so many messages are queued: the smallest task whose queue is wrong, if any. Where the walks of all queues saw as many, none is.
 pub fn rule5(z: Size, l: &[u8], queued: u16) -> TaskMeant
     requires { ⌜ (total z ≤ length (now l)) × (z .tasks < 256) ⌝ }
-    ensures { λ res. ⌜ res ≡ cond (saw (walked z (boardOf z (now (l .entry))) (z .tasks)) queued) NoTask (breaking z (rule5At z (boardOf z (now (l .entry))))) ⌝ }
+    ensures { λ res. ⌜ res ≡ cond (saw (walked (boardOf z (now (l .entry))) queued (z .tasks)) queued) NoTask (breaking z (rule5At z (boardOf z (now (l .entry))))) ⌝ }
 {
-    if saw(walk_queues(z, l), queued) {
+    if saw(walk_queues(z, l, queued as u32), queued) {
         return TaskMeant::NoTask;
     }
     wrong_queue(z, l)

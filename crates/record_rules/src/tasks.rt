@@ -1,7 +1,5 @@
 // A task's record: R2 asks for ten zeros or a present task, R6 for flags that agree.
-ghost use mathlib.Core.Bool.{_&&_};
 ghost use mathlib.Core.Path.{_≡_};
-ghost use lib.Dec.{eqb};
 ghost use Rattle.paper.specs.Rules.{zeroTask, taskPrio, goodHead, goodTask, goodFlags};
 use board::priority::fifo;
 use board::records::Task;
@@ -86,14 +84,4 @@ pub fn good_flags(s: Status, empty: bool) -> bool
         return !empty;
     }
     true
-}
-
-// One task's record keeps R2 and R6.
-pub fn good_task_and_flags(t: Task) -> bool
-    ensures { λ res. ⌜ res ≡ (goodTask t && goodFlags (t .stat) (eqb (t .mptr) 0)) ⌝ }
-{
-    if !good_task(t) {
-        return false;
-    }
-    good_flags(t.stat, t.mptr == 0)
 }

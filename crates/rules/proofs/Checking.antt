@@ -153,7 +153,7 @@ module _ (z : Size) (l : List ℕ) where
       kept4 = breaking-nothing z (rule4At z b) (sym seen4 ∙ e)
 
       -- so R5 is asked with the number of those queued
-      module _ {t : TaskMeant} (et : t ≡ cond (saw (walked z b (z .tasks)) (y .queued)) NoTask (breaking z (rule5At z b))) where
+      module _ {t : TaskMeant} (et : t ≡ cond (saw (walked b (y .queued) (z .tasks)) (y .queued)) NoTask (breaking z (rule5At z b))) where
         seen5 : t ≡ breaking z (rule5At z b)
         seen5 =
             et

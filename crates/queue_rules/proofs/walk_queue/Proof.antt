@@ -16,16 +16,16 @@ use Rattle.queue_rules.proofs.walk_queue.Tie as tie
 returns : tie.Need-returns
 returns c =
     let a = c .before .before .before .before .args in
-    queue-empty (a .z) (now (a .l)) (a .k .0) _ (sym (ap (λ (t : Task). t .mptr) (c .before .before .task-at .ensures)) ∙ c .if1 .taken)
+    queue-empty (a .z) (now (a .l)) (a .k .0) (a .most) _ (sym (ap (λ (t : Task). t .mptr) (c .before .before .task-at .ensures)) ∙ c .if1 .taken)
 
 returns-2 : tie.Need-returns-2
 returns-2 c =
     let i = c .before .before .before in
     let t = i .before .before .task-at in
     let a = i .before .before .before .before .args in
-    queue-beyond (a .z) (now (a .l)) (a .k .0) (t .result .mptr) (i .if1 .left)
+    queue-beyond (a .z) (now (a .l)) (a .k .0) (a .most) (t .result .mptr) (i .if1 .left)
     (messageMeant-none (a .z) (t .result .mptr) (sym (c .before .before .first .ensures) ∙ c .enum-told .given .1))
-    ∙ ap (λ (u : Task). queueVisited (boardOf (a .z) (now (a .l))) (a .k .0) (a .z .messages) (u .mptr) 0 0) (t .ensures)
+    ∙ ap (λ (u : Task). queueVisited (boardOf (a .z) (now (a .l))) (a .k .0) (a .most) (u .mptr) 0 0) (t .ensures)
 
 walk-from-requires : tie.Need-walk-from-requires
 walk-from-requires c κs =
@@ -41,7 +41,7 @@ returns-3 c =
     let i = c .before .before .before .before .before in
     let t = i .before .before .task-at in
     let a = i .before .before .before .before .args in
-    let v : ℕ → Walked = λ (w : ℕ). queueVisited (boardOf (a .z) (now (a .l))) (a .k .0) (a .z .messages) w 0 0 in
+    let v : ℕ → Walked = λ (w : ℕ). queueVisited (boardOf (a .z) (now (a .l))) (a .k .0) (a .most) w 0 0 in
     c .walk-from .ensures
     ∙ ap v
     (messageMeant-there (a .z) (t .result .mptr) _

@@ -1,31 +1,35 @@
 -- `queue_rules::walk_queues` meets its contract.
 use mathlib.Core.Path.{_≡_, refl, sym, ap, _∙_}
-use Prim.Native.Nat.{_-_, _*_, _≤_}
+use Prim.Native.Nat.{_-_, _≤_}
 use native.Mathlib.Omega.{arith}
 use denote.Ref.{now}
 use Rattle.board.specs.Board.{boardOf}
 use Rattle.board.proofs.Meant.{taskMeant-there}
 use Rattle.queue_rules.specs.declared.Walked.the-variants.{Seen}
 use Rattle.queue_rules.specs.Walks.{queueWalked, walked}
-use Rattle.queue_rules.proofs.Turns.{walks-start, walks-break, walks-on, walks-bound, walks-fit}
+use Rattle.queue_rules.proofs.Turns.{walks-start, walks-break, walks-on, walks-bound}
 use Rattle.queue_rules.proofs.QueueTurns.{counted-there}
 use borrow.Author.Needs.{needs}
 use Rattle.queue_rules.proofs.walk_queues.Statement.{statement}
 use Rattle.queue_rules.proofs.walk_queues.Tie as tie
 
 abbrev Inv-loop : tie.InvT-loop
-Inv-loop z l most k₀ sum₀ k sum = (k ≤ most) × (most ≡ z .tasks) × (walked z (boardOf z l) k ≡ Seen sum) × (sum ≤ k * z .messages)
+Inv-loop z l queued most k₀ sum₀ k sum =
+    (k ≤ most) × (most ≡ z .tasks) × (walked (boardOf z l) queued k ≡ Seen sum) × (sum ≤ queued)
 
 abbrev μ-loop : tie.MeasureT-loop
-μ-loop z l most k₀ sum₀ k sum = most - k
+μ-loop z l queued most k₀ sum₀ k sum = most - k
 
 loop-holds : tie.Need-loop-holds Inv-loop μ-loop
 loop-holds c =
     let a = c .before .args in
-    (omega arith, refl, walks-start (a .z) (boardOf (a .z) (now (a .l))), omega arith)
+    (omega arith, refl, walks-start (boardOf (a .z) (now (a .l))) (a .queued), omega arith)
 
 add-k : tie.Need-add-k Inv-loop μ-loop
 add-k c = omega arith
+
+sub-walk-queue : tie.Need-sub-walk-queue Inv-loop μ-loop
+sub-walk-queue c = omega (arith, c .before .before .before .before .before .loop .inv .3)
 
 returns : tie.Need-returns Inv-loop μ-loop
 returns c =
@@ -33,9 +37,9 @@ returns c =
     let p = j .before .before .before .before .loop in
     let a = j .before .before .before .before .before .before .args in
     let b = boardOf (a .z) (now (a .l)) in
-    walks-break (a .z) b (a .z .tasks) (p .k) (j .before .before .before .loop-test .taken)
+    walks-break b (a .queued) (p .k) (p .sum) (p .inv .2) (a .z .tasks) (j .before .before .before .loop-test .taken)
     (sym (c .enum-told .given .1) ∙ c .before .before .walk-queue .ensures
-    ∙ ap (queueWalked (a .z) b) (taskMeant-there (a .z) _ _ (sym (j .before .before .meant .ensures) ∙ j .meant2 .given .1) .1))
+    ∙ ap (queueWalked b (a .queued - p .sum)) (taskMeant-there (a .z) _ _ (sym (j .before .before .meant .ensures) ∙ j .meant2 .given .1) .1))
 
 add-sum : tie.Need-add-sum Inv-loop μ-loop
 add-sum c =
@@ -45,8 +49,8 @@ add-sum c =
     let b = boardOf (a .z) (now (a .l)) in
     let e =
     sym (c .before .one .given .1) ∙ c .before .before .before .walk-queue .ensures
-    ∙ ap (queueWalked (a .z) b) (taskMeant-there (a .z) _ _ (sym (j .before .before .meant .ensures) ∙ j .meant2 .given .1) .1) in
-    omega (arith, walks-fit (a .z) b (p .k) (p .sum) _ e (p .inv .3) (omega arith) (omega arith))
+    ∙ ap (queueWalked b (a .queued - p .sum)) (taskMeant-there (a .z) _ _ (sym (j .before .before .meant .ensures) ∙ j .meant2 .given .1) .1) in
+    omega (arith, walks-bound b (a .queued) (p .k) (p .sum) (p .inv .2) _ e (p .inv .3))
 
 loop-less : tie.Need-loop-less Inv-loop μ-loop
 loop-less c = omega arith
@@ -59,8 +63,12 @@ loop-again c =
     let b = boardOf (a .z) (now (a .l)) in
     let e =
     sym (c .before .one .given .1) ∙ c .before .before .before .walk-queue .ensures
-    ∙ ap (queueWalked (a .z) b) (taskMeant-there (a .z) _ _ (sym (j .before .before .meant .ensures) ∙ j .meant2 .given .1) .1) in
-    (omega arith, refl, walks-on (a .z) b (p .k) (p .sum) _ e (p .inv .2), walks-bound (a .z) b (p .k) (p .sum) _ e (p .inv .3))
+    ∙ ap (queueWalked b (a .queued - p .sum)) (taskMeant-there (a .z) _ _ (sym (j .before .before .meant .ensures) ∙ j .meant2 .given .1) .1) in (
+      omega arith,
+      refl,
+      walks-on b (a .queued) (p .k) (p .sum) (p .inv .2) _ e,
+      walks-bound b (a .queued) (p .k) (p .sum) (p .inv .2) _ e (p .inv .3),
+    )
 
 loop-less-2 : tie.Need-loop-less-2 Inv-loop μ-loop
 loop-less-2 c = omega arith
@@ -75,11 +83,11 @@ returns-2 : tie.Need-returns-2 Inv-loop μ-loop
 returns-2 c =
     let p = c .before .loop in
     let a = c .before .before .before .args in
-    sym (p .inv .2) ∙ ap (walked (a .z) (boardOf (a .z) (now (a .l)))) (omega arith)
+    sym (p .inv .2) ∙ ap (walked (boardOf (a .z) (now (a .l))) (a .queued)) (omega arith)
 
 pub walk-queues-spec : {M : Type 1} → statement M
 walk-queues-spec =
     tie.close
-    (tie.spec Inv-loop μ-loop loop-holds add-k (λ c κs. search needs) (λ c. search needs) (λ c κs. search needs)
+    (tie.spec Inv-loop μ-loop loop-holds add-k (λ c κs. search needs) (λ c. search needs) sub-walk-queue (λ c κs. search needs)
     (λ c. search needs) (λ c. search needs) returns add-sum loop-less loop-again (λ c. search needs) loop-less-2
     loop-again-2 returns-2)

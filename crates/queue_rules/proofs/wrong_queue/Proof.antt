@@ -40,11 +40,11 @@ add-k c = omega arith
 walk-queue-requires : tie.Need-walk-queue-requires Inv-loop μ-loop
 walk-queue-requires c κs = c .before .before .before .before .before .before .before .before .pre .0
 
-array-read-saw : tie.Need-array-read-saw Inv-loop μ-loop
-array-read-saw c = omega (arith, c .before .before .before .before .before .before .loop .inv .2)
+mul-n : tie.Need-mul-n Inv-loop μ-loop
+mul-n c = omega (arith, c .before .before .before .before .before .loop .inv .2)
 
-mul-saw : tie.Need-mul-saw Inv-loop μ-loop
-mul-saw c = omega (arith, c .before .before .before .before .before .before .loop .inv .2)
+read-n : tie.Need-array-read-n Inv-loop μ-loop
+read-n c = omega (arith, c .before .before .before .before .before .loop .inv .2)
 
 returns : tie.Need-returns Inv-loop μ-loop
 returns c =
@@ -56,7 +56,7 @@ returns c =
     let told =
     c .before .saw .ensures
     ∙ ap (λ (w : Walked). saw w n) (c .before .before .walk-queue .ensures
-    ∙ ap (queueWalked (a .z) (boardOf (a .z) (now (a .l)))) (taskMeant-there (a .z) _ _ (sym (j .before .before .meant .ensures) ∙ j .meant2 .given .1) .1))
+    ∙ ap (queueWalked (boardOf (a .z) (now (a .l))) n) (taskMeant-there (a .z) _ _ (sym (j .before .before .meant .ensures) ∙ j .meant2 .given .1) .1))
     ∙ rule5-one (a .z) (now (a .l)) (p .k + 1) n (p .inv .4 (p .k + 1) (omega (arith, p .inv .2))) in
     sym (j .meant2 .given .1) ∙ j .before .before .meant .ensures
     ∙ breaking-is (a .z) f (p .k) (j .before .before .before .loop-test .taken) (p .inv .3)
@@ -75,7 +75,7 @@ loop-again c =
     let told =
     c .before .saw .ensures
     ∙ ap (λ (w : Walked). saw w n) (c .before .before .walk-queue .ensures
-    ∙ ap (queueWalked (a .z) (boardOf (a .z) (now (a .l)))) (taskMeant-there (a .z) _ _ (sym (j .before .before .meant .ensures) ∙ j .meant2 .given .1) .1))
+    ∙ ap (queueWalked (boardOf (a .z) (now (a .l))) n) (taskMeant-there (a .z) _ _ (sym (j .before .before .meant .ensures) ∙ j .meant2 .given .1) .1))
     ∙ rule5-one (a .z) (now (a .l)) (p .k + 1) n (p .inv .4 (p .k + 1) (omega (arith, p .inv .2))) in
     (omega arith, refl, p .inv .2, each-next f (p .k) (p .inv .3) (sym told ∙ not-false _ (c .if1 .left)), p .inv .4)
 
@@ -100,5 +100,5 @@ pub wrong-queue-spec : {M : Type 1} → statement M
 wrong-queue-spec =
     tie.close
     (tie.spec Inv-loop μ-loop queue-lengths-requires loop-holds add-k (λ c κs. search needs) (λ c. search needs)
-    walk-queue-requires (λ c. search needs) mul-saw array-read-saw (λ c κs. search needs) returns loop-less loop-again (λ c. search needs) loop-less-2
-    loop-again-2 returns-2)
+    (λ c. search needs) mul-n read-n (λ c. search needs) walk-queue-requires (λ c κs. search needs) returns loop-less
+    loop-again (λ c. search needs) loop-less-2 loop-again-2 returns-2)
