@@ -1,4 +1,4 @@
--- What is read of a board without DEBUG and MROB is what is read of the board: who runs, the queues, the rules one by one.
+-- What is read of a board without DEBUG and MROB is what is read of the board: who runs, the queues, the rules one by one, and which is broken.
 -- Assumes nothing.
 use mathlib.Core.Path.{_≡_, refl, ap, ap₂, _∙_, fun-ext}
 use mathlib.Core.Bool.{Bool, not}
@@ -15,6 +15,7 @@ use Rattle.board.specs.Board.{Board, task, message, place}
 use Rattle.board.proofs.Numbered.{nth-map}
 use Rattle.paper.specs.Rules.{isThere, present, nextTask, nextMessage, order, queue, emptyQueue, taskNumber, messageNumber, ready}
 use Rattle.paper.specs.Rules.{running, goodTask, goodFlags, goodMessage, rule2At, rule3, rule4At, rule5At, rule6At, rule7, passes}
+use Rattle.paper.specs.Named.{brokenRule}
 use Rattle.paper.specs.Effects.{find}
 use Rattle.bare.specs.Bare.{bare, bareTask, bareBoard}
 use Rattle.bare.proofs.Bits.{Other, mhbs, tcbb}
@@ -96,3 +97,6 @@ module _ (z : Size) (b : Board) where
 
   pub passes-bare : passes z (bareBoard b) ≡ passes z b
   passes-bare = rw (fun-ext rule2-bare, rule3-bare, fun-ext rule4-bare, fun-ext rule5-bare, fun-ext rule6-bare, rule7-bare)
+
+  pub broken-bare : brokenRule z (bareBoard b) ≡ brokenRule z b
+  broken-bare = rw (fun-ext rule2-bare, rule3-bare, fun-ext rule4-bare, fun-ext rule5-bare, fun-ext rule6-bare, running-bare)

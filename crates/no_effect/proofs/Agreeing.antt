@@ -1,7 +1,7 @@
 -- Two boards alike and two calls: where the rows of refusals and the values are the same, and the boards before dispatch are but
 -- for DEBUG and MROB, the answers are the same and the boards left are alike.
 -- Assumes nothing.
-use mathlib.Core.Path.{_≡_, refl, sym, ap, _∙_, subst}
+use mathlib.Core.Path.{_≡_, refl, sym, ap, ap₂, _∙_, subst}
 use mathlib.Core.Bool.{Bool, true, not}
 use mathlib.Core.List.{List, _∷_}
 use Prim.Native.Nat.{ℕ}
@@ -12,9 +12,11 @@ use Rattle.board.specs.declared.numbers.Size.{Size}
 use Rattle.board.specs.Records.{Byte}
 use Rattle.board.specs.Board.{Board, total, boardOf, bytesOf}
 use Rattle.paper.specs.declared.call.Call.{Call}
+use Rattle.paper.specs.declared.answer.Rule.{Rule}
 use Rattle.paper.specs.declared.answer.Refusal.the-variants.{WrongLength, RuleBroken}
 use Rattle.paper.specs.declared.answer.Answer.the-variants.{Accepted}
 use Rattle.paper.specs.Rules.{running, passes}
+use Rattle.paper.specs.Named.{brokenRule}
 use Rattle.paper.specs.Refusals.{Test, test, no1, no2, ownRow, row, Verdict, Go, Stop, lowest}
 use Rattle.paper.specs.Outcomes.{Outcome, accepted, judge, Undispatched, body, dispatch, effect}
 use Rattle.kept.specs.Settled.{Fitting}
@@ -25,7 +27,7 @@ use Rattle.kept.proofs.Bodies.{body-settles}
 use Rattle.kept.proofs.Theorems.{sound-settled, sound-runner, passing-sound}
 use Rattle.bare.specs.Bare.{bareBoard}
 use Rattle.no_effect.specs.Claims.{Alike}
-use Rattle.bare.proofs.Reading.{running-bare, passes-bare}
+use Rattle.bare.proofs.Reading.{running-bare, passes-bare, broken-bare}
 use Rattle.no_effect.proofs.Dispatching.{left, delivered, left-alike, delivered-bare, Returns}
 use Rattle.no_effect.proofs.Dispatching.{left-returns, dispatch-leaves}
 
@@ -58,7 +60,8 @@ pub verdicts : (z : Size) (l d : List ℕ) (tests others : List Test) → Alike 
 verdicts z l d tests others a e =
     let long = ap (λ (n : ℕ). test WrongLength (not (eqb n (total z)))) (a .long) in
     let pass = same (passes z) (passes-bare z) (boardOf z l) (boardOf z d) (a .boards) in
-    let rules = ap (λ (t : Bool). test RuleBroken (not t)) pass in
+    let broken = same (brokenRule z) (broken-bare z) (boardOf z l) (boardOf z d) (a .boards) in
+    let rules = ap₂ (λ (r : Rule) (t : Bool). test (RuleBroken r) (not t)) broken pass in
     λ i. lowest (long i ∷ rules i ∷ e i)
 
 -- ---- a call that is accepted
