@@ -1,15 +1,23 @@
 -- The claims of specs/Claims, proved. Assumes nothing.
-use mathlib.Core.Path.{_≡_, refl}
+use mathlib.Core.Path.{_≡_, refl, ap}
+use mathlib.Core.List.{List}
 use Prim.Native.Nat.{ℕ, _+_, _*_, _<_}
 use native.Mathlib.Omega.{arith}
 use native.Mathlib.Decide.{ℕ-discrete}
 use lib.Dec.{lit<}
+use Rattle.board.specs.Numbers.{small}
+use Rattle.board.specs.Board.{boardOf}
+use Rattle.paper.specs.declared.answer.Rule.{Rule}
+use Rattle.paper.specs.declared.answer.Rule.the-variants.{R1, R2, R3, R4, R5, R6, R7}
 use Rattle.paper.specs.declared.answer.Answer.{Answer}
 use Rattle.paper.specs.declared.answer.Answer.the-variants.{Accepted, Refused}
-use Rattle.paper.specs.Answers.{told, Handed, handed}
+use Rattle.paper.specs.Answers.{recordNumber, told, Handed, handed}
+use Rattle.paper.specs.Named.{brokenRule}
+use Rattle.paper.specs.Outcomes.{Outcome, effect, check}
+use Rattle.paper.specs.Claims.{Names, BrokenAt}
 use Rattle.paper.proofs.Theorems.{handed-tells, refusal-number}
-use Rattle.paper.proofs.Naming.{rule-only-with-2}
-use Rattle.for_c.specs.Claims.{Words, PackedTells, NoAnswerIs255}
+use Rattle.paper.proofs.Naming.{verdict-stays, lowest-is-named, rule-only-with-2}
+use Rattle.for_c.specs.Claims.{Words, RecordFits, PackedTells, NoAnswerIs255}
 
 -- the number is 0 to 15
 number-small : (a : Answer) → handed a .number < 16
@@ -23,6 +31,31 @@ rule-small a = step (ℕ-discrete (handed a .number) 2)
     step : Dec (handed a .number ≡ 2) → handed a .rule < 8
     step (yes e) = let r = rule-only-with-2 a .0 e in omega (arith, r .1)
     step (no n) = let r = rule-only-with-2 a .1 n in omega arith
+
+-- the record is a number of the board, or 0
+record-small : (l : List ℕ) (r : Rule) → BrokenAt small (boardOf small l) r → recordNumber r < 256
+record-small l R1 h = lit< tt
+record-small l (R2 k) h = omega (arith, h .0 .1)
+record-small l R3 h = lit< tt
+record-small l (R4 m) h = omega (arith, h .0 .1)
+record-small l (R5 k) h = omega (arith, h .0 .1)
+record-small l (R6 k) h = omega (arith, h .0 .1)
+record-small l (R7 k) h = omega (arith, h .0 .1)
+
+named-fits : (l : List ℕ) (a : Answer) → Names small l a → handed a .recordNo < 256
+named-fits l a n = step (ℕ-discrete (handed a .number) 2)
+  where
+    step : Dec (handed a .number ≡ 2) → handed a .recordNo < 256
+    step (yes two) =
+        let e = ap (λ (x : Answer). handed x .recordNo) (n .1 two) in
+        let r = record-small l (brokenRule small (boardOf small l)) (lowest-is-named small l (n .0 .0 two .1) .0) in
+        omega arith
+    step (no other) = let t = rule-only-with-2 a in let z = t .2 (t .1 other) in omega arith
+
+pub record-fits : RecordFits
+record-fits l =
+    let (calls, checks, sound) = verdict-stays small l in
+    (named-fits l (check small l .answer) checks, λ call. named-fits l (effect small l call .answer) (calls call))
 
 -- the lower part of a sum and the higher one are told by it
 byte-told : (a e x y : ℕ) → a < 256 → e < 256 → a + 256 * x ≡ e + 256 * y → (a ≡ e) × (x ≡ y)

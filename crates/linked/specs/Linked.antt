@@ -6,7 +6,7 @@ use mathlib.Core.Path.{_≡_}
 use mathlib.Core.Logic.{_↔_}
 use mathlib.Core.Bool.{true}
 use mathlib.Core.List.{List}
-use Prim.Native.Nat.{ℕ, _≤_}
+use Prim.Native.Nat.{ℕ}
 use Rattle.links.specs.Chain.{In, Sorted, Chain}
 use Rattle.board.specs.declared.numbers.Size.{Size}
 use Rattle.board.specs.declared.places.Place.the-variants.{QueuedAt}

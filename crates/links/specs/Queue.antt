@@ -12,6 +12,7 @@
 --   lists ..            R3 and R5 alike: what the links of a queue must visit
 --   firstWith f q       the first of q that f is true of, 0 if none
 --   each f n            f is true of each number from 1 to n
+--   orElse x y          x, or y where x is 0
 --   smallestFailing f n the smallest number from 1 to n that f is not true of, 0 if none
 -- Assumes nothing.
 use mathlib.Core.Bool.{Bool, true, false, cond, _&&_}

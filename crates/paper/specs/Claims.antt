@@ -6,7 +6,10 @@
 --                       given only where none applies
 --   VerdictStays        2 is given exactly where the length is right and a rule is broken, and names what brokenRule says; a board that
 --                       passes is checked as before, with the same running task
+--   BrokenAt z b r      the rule r is broken at the record that it names; NoLater r s: r is a lower rule than s, or the same with no
+--                       greater record
 --   LowestIsNamed       the rule named is broken at the record named; no lower rule is broken, and no smaller record breaks that one
+--   Fault z b k         what is wrong with the queue of task k
 --   WrongQueue          R5 at task k, in words: its own walk does not end, meets a message that is not queued there or misses one that
 --                       is, or a priority number falls
 --   RuleOnlyWith2       a rule, 1 to 7, comes with 2 alone, and no record but with a rule; none with R1 and R3
@@ -85,7 +88,6 @@ VerdictStays =
     ((call : Call) → Names z l (effect z l call .answer)) × Names z l (check z l .answer)
     × (length l ≡ total z → passes z b ≡ true → check z l .answer ≡ Accepted 0 (running z b) 0)
 
--- a rule is broken at the record that it names
 abbrev pub BrokenAt : Size → Board → Rule → Type 0
 BrokenAt z b R1 = rule1 b ≡ false
 BrokenAt z b (R2 k) = Numbered (z .tasks) (k .0) × (rule2At b (k .0) ≡ false)
@@ -95,7 +97,6 @@ BrokenAt z b (R5 k) = Numbered (z .tasks) (k .0) × (rule5At z b (k .0) ≡ fals
 BrokenAt z b (R6 k) = Numbered (z .tasks) (k .0) × (rule6At b (k .0) ≡ false)
 BrokenAt z b (R7 k) = Numbered (z .tasks) (k .0) × (k .0 ≡ running z b) × (rule7 z b ≡ false)
 
--- r is a lower rule than s, or the same with no greater record
 abbrev pub NoLater : Rule → Rule → Type 0
 NoLater r s = (ruleNumber r < ruleNumber s) ⊎ ((ruleNumber r ≡ ruleNumber s) × (recordNumber r ≤ recordNumber s))
 
@@ -104,7 +105,6 @@ LowestIsNamed =
     (z : Size) (l : List ℕ) → let b = boardOf z l in let r = brokenRule z b in
     passes z b ≡ false → BrokenAt z b r × ((s : Rule) → BrokenAt z b s → NoLater r s)
 
--- what is wrong with the queue of task k
 pub data Fault (z : Size) (b : Board) (k : ℕ) : Type 0 where
   NoEnd : ends (nextMessage b) (z .messages) (task b k .mptr) ≡ false → Fault z b k
   Meets : (m : ℕ) → In m (queue z b k) → isQueuedAt k (place b m) ≡ false → Fault z b k

@@ -1,7 +1,7 @@
 -- The check as a whole: the first rule that fails is the one that is named, and where all hold the task that R3's walk met runs.
 -- Assumes nothing.
 use mathlib.Core.Path.{_≡_, refl, sym, ap, _∙_}
-use mathlib.Core.Bool.{Bool, true, false, cond, not, _&&_, true≢false}
+use mathlib.Core.Bool.{Bool, true, false, cond, not, true≢false}
 use mathlib.Core.List.{List}
 use Prim.Native.Nat.{ℕ}
 use native.Mathlib.Omega.{arith}
@@ -13,7 +13,6 @@ use Rattle.board.specs.declared.numbers.TaskNo.{TaskNo}
 use Rattle.board.specs.declared.numbers.MsgNo.{MsgNo}
 use Rattle.board.specs.declared.numbers.TaskMeant.{TaskMeant}
 use Rattle.board.specs.declared.numbers.TaskMeant.the-variants.{Task, NoTask}
-use Rattle.board.specs.declared.numbers.MessageMeant.{MessageMeant}
 use Rattle.board.specs.declared.numbers.MessageMeant.the-variants.{Message, NoMessage}
 use Rattle.board.specs.declared.records.Task as board
 use Rattle.board.specs.Numbers.{outside, taskNo, msgNo, taskMeant, messageMeant}
@@ -23,7 +22,6 @@ use Rattle.board.specs.Board.{Board, boardOf, task}
 use Rattle.board.proofs.Pieces.{nth-outside}
 use Rattle.board.proofs.Codec.{length-tasks}
 use Rattle.board.proofs.Meant.{taskMeant-task, taskMeant-none}
-use Rattle.paper.specs.declared.answer.Rule.{Rule}
 use Rattle.paper.specs.declared.answer.Rule.the-variants.{R1, R2, R3, R4, R5, R6, R7}
 use Rattle.paper.specs.Rules.{present, running, rule1, rule2At, rule3, rule4At, rule5At, rule6At, rule7}
 use Rattle.order_rules.specs.declared.tasks.Order.{Order}
@@ -35,7 +33,6 @@ use Rattle.queue_rules.proofs.Lists.{rule5-counted}
 use Rattle.queue_rules.proofs.Breaking.{breaking-none, breaking-task, breaking-nobody, breaking-message, breaking-nothing}
 use Rattle.rules.specs.declared.records.Tasks.{Tasks}
 use Rattle.rules.specs.declared.records.Messages.{Messages}
-use Rattle.rules.specs.declared.Checked.{Checked}
 use Rattle.rules.specs.declared.Checked.the-variants.{Broken, Passes}
 use Rattle.rules.specs.Checked.{messagesIf, messagesSeen, tasksIf, tasksSeen, due, checkedOf}
 

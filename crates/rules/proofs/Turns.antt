@@ -4,11 +4,11 @@ use mathlib.Core.Path.{_≡_, refl, sym, ap, ap₂, _∙_}
 use mathlib.Core.Bool.{Bool, true, false, cond, _&&_}
 use mathlib.Core.Bool as bool
 use mathlib.Core.List.{List, [], _∷_}
-use Prim.Native.Nat.{ℕ, zero, suc, _+_, _≤_, _<_}
+use Prim.Native.Nat.{ℕ, zero, _+_, _≤_, _<_}
 use native.Mathlib.Omega.{arith}
 use lib.Dec.{eqb}
 use lib.ListN.{getD, take, drop}
-use Rattle.links.specs.Queue.{each, orElse, smallestFailing}
+use Rattle.links.specs.Queue.{each, smallestFailing}
 use Rattle.links.proofs.Bools.{each-next, each-fails}
 use Rattle.links.proofs.Smallest.{smallest-none, smallest-is, smallest-one, smallest-stays}
 use Rattle.board.specs.declared.numbers.Size.{Size}

@@ -1,5 +1,5 @@
 -- `rules::records::first_breaking6` meets its contract.
-use mathlib.Core.Path.{sym, ap, _∙_}
+use mathlib.Core.Path.{sym, _∙_}
 use borrow.Author.Needs.{needs}
 use Rattle.rules.proofs.records.first_breaking6.Statement.{statement}
 use Rattle.rules.proofs.records.first_breaking6.Tie as tie
