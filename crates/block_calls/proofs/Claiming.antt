@@ -1,17 +1,13 @@
--- The message blocks, in plain variables: what a turn of lowest_free and each way out of it makes of the definition, and what
--- claim, release and prepare answer and leave.
+-- The message blocks, in plain variables: what claim, release and prepare answer and leave.
 -- Assumes nothing.
-use mathlib.Core.Path.{_≡_, refl, sym, ap, _∙_}
-use mathlib.Core.Logic.{⊎-elim}
+use mathlib.Core.Path.{_≡_, refl, sym, _∙_}
 use mathlib.Core.Bool.{true, false, true≢false}
 use mathlib.Core.List.{List, [], _∷_}
-use Prim.Native.Nat.{ℕ, _+_, _≤_, _<_}
+use Prim.Native.Nat.{ℕ, _≤_, _<_}
 use native.Mathlib.Omega.{arith}
 use native.Mathlib.Decide.{ℕ-discrete}
 use lib.Dec.{eqb}
 use borrow.Author.Tests.{eq-eqb, ne-eqb, lt-ltb, le-ltb}
-use denote.Enum.Declared.{tagOf}
-use types.Run.{OneOf}
 use Rattle.board.specs.declared.numbers.Size.{Size}
 use Rattle.board.specs.declared.numbers.TaskNo.{TaskNo}
 use Rattle.board.specs.declared.numbers.MsgNo.{MsgNo}
@@ -20,14 +16,11 @@ use Rattle.board.specs.declared.numbers.TaskMeant.the-variants.{Task}
 use Rattle.board.specs.declared.numbers.MessageMeant.{MessageMeant}
 use Rattle.board.specs.declared.numbers.MessageMeant.the-variants as means
 use Rattle.board.specs.declared.records.Message.{Message}
-use Rattle.board.specs.declared.places.Place.{Place}
-use Rattle.board.specs.declared.places.Place.the-variants.{Free, HeldBy, QueuedAt, Nowhere}
+use Rattle.board.specs.declared.places.Place.the-variants.{Free, HeldBy}
 use Rattle.board.specs.Numbers.{taskNo, taskMeant, messageMeant}
 use Rattle.board.specs.Records.{noMessage, withStat, withPrio, withSptr}
-use Rattle.board.specs.Places.{isFree}
-use Rattle.board.specs.Board.{Board, boardOf, message, place}
+use Rattle.board.specs.Board.{Board, boardOf, message}
 use Rattle.board.specs.Writes.{putMessage, putPlace}
-use Rattle.board.proofs.places.Place.{the-type}
 use Rattle.board.proofs.Pieces.{outside-within, within-outside}
 use Rattle.board.proofs.Meant.{messageMeant-message, messageMeant-none}
 use Rattle.board.proofs.Codec.{length-places}
@@ -46,31 +39,6 @@ use Rattle.stores.specs.Answers.{heldOf, Makes}
 use Rattle.stores.specs.Calls.{verdict, stepping}
 use Rattle.paper.proofs.Rows.{lowest-stop, lowest-on}
 use Rattle.inner.proofs.Steps.{stops, does, one-goes, held-goes}
-use Rattle.inner.proofs.Searching.{foundAbove, found-here, found-above, found-none}
-
--- ---- the lowest free message
--- the code met another variant than Free
-taken : (p : Place) → OneOf (1 ∷ 2 ∷ 3 ∷ []) (tagOf the-type p) → isFree p ≡ false
-taken Free i = absurd (⊎-elim (λ f. omega arith) (λ j. ⊎-elim (λ f. omega arith) (λ f. omega arith) j) i)
-taken (HeldBy k) i = refl
-taken (QueuedAt k) i = refl
-taken (Nowhere n) i = refl
-
--- the messages up to m were looked at
-module _ (z : Size) (l : List ℕ) (m : ℕ) (inv : foundAbove isFree (boardOf z l) m ≡ lowestFree (boardOf z l)) where
-  -- there is no other: none is free
-  pub free-none : z .messages ≤ m → means.NoMessage ≡ messageMeant z (lowestFree (boardOf z l))
-  free-none h = ap (messageMeant z) (found-none (λ x. x) isFree z l m inv h)
-
-  -- p is the place of the next one
-  module _ (h : m < z .messages) {p : Place} (e : p ≡ place (boardOf z l) (m + 1)) where
-    -- it is free
-    pub free-here : p ≡ Free → {x : MessageMeant} → x ≡ messageMeant z (m + 1) → x ≡ messageMeant z (lowestFree (boardOf z l))
-    free-here f ex = ex ∙ ap (messageMeant z) (found-here (λ x. x) isFree z l m inv h (ap isFree (sym e ∙ f)))
-
-    -- it is not
-    pub free-above : OneOf (1 ∷ 2 ∷ 3 ∷ []) (tagOf the-type p) → foundAbove isFree (boardOf z l) (m + 1) ≡ lowestFree (boardOf z l)
-    free-above f = found-above (λ x. x) isFree z l m inv h (ap isFree (sym e) ∙ taken p f)
 
 -- ---- claim, where k runs: x is who runs, free the lowest free message
 module _ (z : Size) (l : List ℕ) {x : TaskMeant} (ex : x ≡ taskMeant z (running z (boardOf z l))) {k : TaskNo} (runs : x ≡ Task k)

@@ -1,3 +1,3 @@
-mod Access
+pub mod Access
 mod ByWord
 mod Fields

@@ -1,0 +1,73 @@
+-- The search for the lowest free message: what a turn of each loop of `lowest_free`, and each way out of it, make of the definition.
+-- Assumes nothing.
+use mathlib.Core.Path.{_≡_, refl, sym, ap, _∙_}
+use mathlib.Core.Logic.{⊎-elim}
+use mathlib.Core.Bool.{true, false}
+use mathlib.Core.List.{List, [], _∷_}
+use Prim.Native.Nat.{ℕ, _+_, _≤_, _<_}
+use native.Mathlib.Omega.{arith}
+use borrow.Author.Tests.{not-true}
+use denote.Enum.Declared.{tagOf}
+use types.Run.{OneOf}
+use Rattle.links.proofs.Bools.{both}
+use Rattle.board.specs.declared.numbers.Size.{Size}
+use Rattle.board.specs.declared.numbers.MessageMeant.{MessageMeant}
+use Rattle.board.specs.declared.numbers.MessageMeant.the-variants.{NoMessage}
+use Rattle.board.specs.declared.places.Place.{Place}
+use Rattle.board.specs.declared.places.Place.the-variants.{Free, HeldBy, QueuedAt, Nowhere}
+use Rattle.board.specs.Numbers.{messageMeant}
+use Rattle.board.specs.Places.{isFree}
+use Rattle.board.specs.Board.{Board, boardOf, place}
+use Rattle.board.proofs.places.Place.{the-type}
+use Rattle.paper.specs.Effects.{lowestFree}
+use Rattle.inner.proofs.Searching.{foundAbove, found-here, found-above, found-none}
+use Rattle.free_places.specs.Fours.{isTaken, fourTaken}
+use Rattle.free_places.proofs.Taken.{four-within}
+
+-- the messages up to m are not free: the lowest above them is the lowest
+abbrev pub Sought : Board → ℕ → Type 0
+Sought b m = foundAbove isFree b m ≡ lowestFree b
+
+-- the code met another variant than Free
+not-free : (p : Place) → OneOf (1 ∷ 2 ∷ 3 ∷ []) (tagOf the-type p) → isFree p ≡ false
+not-free Free i = absurd (⊎-elim (λ f. omega arith) (λ j. ⊎-elim (λ f. omega arith) (λ f. omega arith) j) i)
+not-free (HeldBy k) i = refl
+not-free (QueuedAt k) i = refl
+not-free (Nowhere n) i = refl
+
+module _ (z : Size) (l : List ℕ) where
+  abbrev b : Board
+  b = boardOf z l
+
+  -- n, the one behind m, is taken
+  behind-one : (m n : ℕ) → n ≡ m + 1 → m < z .messages → isTaken b n ≡ true → Sought b m → Sought b n
+  behind-one m n e h t inv =
+      ap (foundAbove isFree b) e
+      ∙ found-above (λ x. x) isFree z l m inv h (ap (λ (x : ℕ). isFree (place b x)) (sym e) ∙ not-true _ t)
+
+  module _ (m : ℕ) (inv : Sought b m) where
+    -- the four behind m are taken
+    pub behind-four : fourTaken b m ≡ true → Sought b (m + 4)
+    behind-four e =
+        let h = four-within z l m e in
+        let one = both (isTaken b (m + 1)) _ e in
+        let two = both (isTaken b (m + 2)) _ (one .1) in
+        let three = both (isTaken b (m + 3)) (isTaken b (m + 4)) (two .1) in
+        behind-one (m + 3) (m + 4) (omega arith) (omega arith) (three .1)
+        (behind-one (m + 2) (m + 3) (omega arith) (omega arith) (three .0)
+        (behind-one (m + 1) (m + 2) (omega arith) (omega arith) (two .0)
+        (behind-one m (m + 1) (omega arith) (omega arith) (one .0) inv)))
+
+    -- there is no other: none is free
+    pub free-none : z .messages ≤ m → NoMessage ≡ messageMeant z (lowestFree b)
+    free-none h = ap (messageMeant z) (found-none (λ x. x) isFree z l m inv h)
+
+    -- p is the place of the next one
+    module _ (h : m < z .messages) {p : Place} (e : p ≡ place b (m + 1)) where
+      -- it is free
+      pub free-here : p ≡ Free → {x : MessageMeant} → x ≡ messageMeant z (m + 1) → x ≡ messageMeant z (lowestFree b)
+      free-here f ex = ex ∙ ap (messageMeant z) (found-here (λ x. x) isFree z l m inv h (ap isFree (sym e ∙ f)))
+
+      -- it is not
+      pub free-above : OneOf (1 ∷ 2 ∷ 3 ∷ []) (tagOf the-type p) → Sought b (m + 1)
+      free-above f = found-above (λ x. x) isFree z l m inv h (ap isFree (sym e) ∙ not-free p f)

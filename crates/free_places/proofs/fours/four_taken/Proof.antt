@@ -1,0 +1,24 @@
+-- `free_places::fours::four_taken` meets its contract.
+use mathlib.Core.Path.{refl, sym, _∙_}
+use denote.Ref.{now}
+use Rattle.free_places.proofs.Taken.{four-bytes, four-beyond}
+use borrow.Author.Needs.{needs}
+use Rattle.free_places.proofs.fours.four_taken.Statement.{statement}
+use Rattle.free_places.proofs.fours.four_taken.Tie as tie
+
+returns : tie.Need-returns
+returns c = let a = c .before .before .before .args in sym (four-beyond (a .z) (now (a .l)) (a .m) (c .if1 .taken))
+
+returns-2 : tie.Need-returns-2
+returns-2 c =
+    let t = c .before .before .before .before .before .before .before in
+    let a = t .before .before .before .args in
+    c .none-zero .ensures ∙ four-bytes (a .z) (now (a .l)) (a .m) _ (t .if1 .left) refl
+
+pub four-taken-spec : {M : Type 1} → statement M
+four-taken-spec =
+    tie.close
+    (tie.spec (λ c. search needs) (λ c. search needs) returns (λ c. search needs) (λ c. search needs)
+    (λ c. search needs) (λ c. search needs) (λ c. search needs) (λ c. search needs) (λ c. search needs)
+    (λ c. search needs) (λ c. search needs) (λ c. search needs) (λ c. search needs) (λ c. search needs)
+    (λ c. search needs) (λ c. search needs) (λ c κs. search needs) returns-2)
