@@ -20,11 +20,12 @@ pub fn lowest_free(z: Size, l: &[u8]) -> MessageMeant
     requires { ⌜ total z ≤ length (now l) ⌝ }
     ensures { λ res. ⌜ res ≡ messageMeant z (lowestFree (boardOf z (now (l .entry)))) ⌝ }
 {
+    let most = z.messages;
     let mut m: u16 = 0;
     while four_taken(z, l, m) {
         m += 4;
     }
-    while m < z.messages {
+    while m < most {
         m += 1;
         let p = place_meant(z, l, m);
         if let Place::Free = p {

@@ -1,5 +1,6 @@
 -- `free_places::fours::four_taken` meets its contract.
 use mathlib.Core.Path.{refl, sym, _∙_}
+use native.Mathlib.Omega.{arith}
 use denote.Ref.{now}
 use Rattle.free_places.proofs.Taken.{four-bytes, four-beyond}
 use borrow.Author.Needs.{needs}
@@ -7,7 +8,11 @@ use Rattle.free_places.proofs.fours.four_taken.Statement.{statement}
 use Rattle.free_places.proofs.fours.four_taken.Tie as tie
 
 returns : tie.Need-returns
-returns c = let a = c .before .before .before .args in sym (four-beyond (a .z) (now (a .l)) (a .m) (c .if1 .taken))
+returns c = let a = c .before .before .before .args in sym (four-beyond (a .z) (now (a .l)) (a .m) (omega arith))
+
+-- the last byte read is one of the board
+fourth-read : tie.Need-shared-slice-read-none-zero-4
+fourth-read c = omega arith
 
 returns-2 : tie.Need-returns-2
 returns-2 c =
@@ -21,4 +26,4 @@ four-taken-spec =
     (tie.spec (λ c. search needs) (λ c. search needs) returns (λ c. search needs) (λ c. search needs)
     (λ c. search needs) (λ c. search needs) (λ c. search needs) (λ c. search needs) (λ c. search needs)
     (λ c. search needs) (λ c. search needs) (λ c. search needs) (λ c. search needs) (λ c. search needs)
-    (λ c. search needs) (λ c. search needs) (λ c κs. search needs) returns-2)
+    (λ c. search needs) fourth-read (λ c κs. search needs) returns-2)
