@@ -4,34 +4,35 @@ use model::runner::history::History;
 use model::runner::random::Random;
 use model::{Answer, Call};
 
-use crate::version::{Request, Version};
+use crate::version::{Asked, Request, Version};
 
 /// A row of the table.
 pub struct Case {
     /// What the row is called.
     pub name: &'static str,
-    /// What is asked; the check of one board or several, a call of one.
-    pub request: Request,
+    /// What is asked; the check of one board or several, anything else of one.
+    pub asked: Asked,
     /// The boards.
     pub boards: Vec<Board>,
-    /// Which board comes when, in a batch of checks.
+    /// Which board comes when, in a batch of checks or searches.
     pub turns: Vec<usize>,
-    /// The packed answer where it is refused, 0 where it is accepted.
-    pub refused: u64,
+    /// The answer that is timed; nothing where it is any that is accepted.
+    pub answer: Option<u64>,
 }
 
 impl Case {
-    /// An error where the versions differ in an answer or a byte, or where the answer is not the one that is timed.
+    /// An error where the versions differ in an answer or a byte, or where the answer is not the one that is timed. The version of
+    /// a landing before may have none.
     pub fn compare(&self, versions: &[Version], before: Option<Version>) -> Result<(), String> {
         for board in &self.boards {
             let ask = |version: Version| {
                 let mut after = *board;
-                (version.ask(&mut after, &self.request), after)
+                version.ask(&mut after, &self.asked).map(|answer| (answer, after))
             };
-            let told = ask(versions[0]);
-            let is_timed = if self.refused == 0 { told.0 as u8 == 0 } else { told.0 == self.refused };
-            let alike = versions.iter().all(|version| ask(*version) == told);
-            if !is_timed || !alike || before.is_some_and(|before| !is_as_before(told, ask(before))) {
+            let Some(told) = ask(versions[0]) else { return Err(format!("{}: the library cannot be asked", self.name)) };
+            let is_timed = self.answer.map_or(told.0 as u8 == 0, |answer| told.0 == answer);
+            let alike = versions.iter().all(|version| ask(*version) == Some(told));
+            if !is_timed || !alike || before.and_then(ask).is_some_and(|before| !is_as_before(told, before)) {
                 return Err(format!("{}: not the answer that is timed, or the answers or the boards differ", self.name));
             }
         }
@@ -46,7 +47,7 @@ fn is_as_before((told, after): (u64, Board), before: (u64, Board)) -> bool {
 
 /// All rows.
 pub fn all() -> Vec<Case> {
-    checks().into_iter().chain(refused_checks()).chain(calls()).collect()
+    checks().into_iter().chain(refused_checks()).chain(searches()).chain(claims()).chain(calls()).collect()
 }
 
 fn checks() -> [Case; 6] {
@@ -85,13 +86,38 @@ fn refused_checks() -> [Case; 8] {
     ]
 }
 
-/// Calls on boards with 31 tasks or 32. A queue grows to the length that is told, or is that long before it is taken from.
-fn calls() -> [Case; 8] {
-    let call = |name, board, kind, words| Case { request: request(kind, words), ..check(name, board) };
+/// Claim's search by itself, without the check before it.
+fn searches() -> [Case; 4] {
+    let search = |name, held_count, found| Case {
+        asked: Asked::LowestFree,
+        answer: Some(found),
+        ..check(name, held(tasks(31), held_count))
+    };
+    [
+        search("claim's search, all 128 free", 0, 1),
+        search("claim's search, half are free", 64, 65),
+        search("claim's search, the last one free", 127, 128),
+        search("claim's search, none free", 128, 0),
+    ]
+}
+
+/// Whole claims, by a task that holds what is not free.
+fn claims() -> [Case; 5] {
+    let claim = |name, board| call(name, board, 5, [0; 3]);
     let held = |count| held(tasks(31), count);
     [
-        call("claim, one block free", held(127), 5, [0; 3]),
-        call("claim, last of 32 tasks runs", last_runs(), 5, [0; 3]),
+        claim("claim, all 128 free", held(0)),
+        claim("claim, half are free", held(64)),
+        claim("claim, the last one free", held(127)),
+        Case { answer: Some(11), ..claim("claim, none free: refused with 11", held(128)) },
+        claim("claim, last of 32 tasks runs", last_runs()),
+    ]
+}
+
+/// Calls on boards with 31 tasks. A queue grows to the length that is told, or is that long before it is taken from.
+fn calls() -> [Case; 6] {
+    let held = |count| held(tasks(31), count);
+    [
         call("send, queue of 1", held(1), 8, [1, 2, 0]),
         call("receive, queue of 1", sent(held(1), 1, |_| 1), 16, [0; 3]),
         call("send, queue of 128", sent(held(128), 127, |_| 2), 8, [128, 2, 0]),
@@ -102,17 +128,17 @@ fn calls() -> [Case; 8] {
 }
 
 fn check(name: &'static str, board: Board) -> Case {
-    Case { name, request: request(0, [0; 3]), boards: vec![board], turns: vec![0; 128], refused: 0 }
+    Case { name, asked: Asked::Check, boards: vec![board], turns: vec![0; 128], answer: None }
 }
 
 /// The check of a board with a fault, which is named by this rule and this record.
 fn refused(name: &'static str, rule: u64, record: u16, mut board: Board, fault: &dyn Fn(&mut Board)) -> Case {
     fault(&mut board);
-    Case { refused: 2 | rule << 8 | u64::from(record) << 16, ..check(name, board) }
+    Case { answer: Some(2 | rule << 8 | u64::from(record) << 16), ..check(name, board) }
 }
 
-fn request(kind: u8, words: [u16; 3]) -> Request {
-    Request { kind, words, stat: 1, prio: 51 }
+fn call(name: &'static str, board: Board, kind: u8, words: [u16; 3]) -> Case {
+    Case { asked: Asked::Call(Request { kind, words, stat: 1, prio: 51 }), ..check(name, board) }
 }
 
 /// The value of a call that is accepted.

@@ -1,4 +1,5 @@
 //! A version against the model, on the cases of the differential run: histories, damaged boards, wild arguments, wrong lengths.
+use model::board::BOARD_LEN;
 use model::runner::case::{CHECK, FRESH};
 use model::runner::cases::cases_of_seed;
 
@@ -13,6 +14,8 @@ pub struct Seen {
     pub refusals: [usize; 32],
     /// Accepted calls by kind.
     pub accepted: [usize; 32],
+    /// Boards by which of its group of four the lowest free message is, 0 where none is free.
+    pub free: [usize; 5],
 }
 
 /// What was met in so many cases of a seed; an error where an answer or a byte differs. The check is tried on every board.
@@ -27,6 +30,13 @@ pub fn on_cases(seed: u64, count: usize, version: Version) -> Result<Seen, Strin
         }
         if version.check(&case.board) != checked {
             return differs("check");
+        }
+        let lowest_free = PLAIN.lowest_free(&case.board);
+        if case.board.len() == BOARD_LEN {
+            seen.free[lowest_free.map_or(0, |m| usize::from(m.min(1) + m.saturating_sub(1) % 4))] += 1;
+        }
+        if version.lowest_free(&case.board).is_some_and(|free| Some(free) != lowest_free) {
+            return differs("lowest free message");
         }
         if [CHECK, FRESH].contains(&asked.kind) {
             continue;

@@ -2,7 +2,8 @@
 //! that of the landing before.
 //!
 //! First all versions but BEFORE are compared on many boards, damaged ones among them, and all on the boards that are timed. They
-//! must give the same answers and the same bytes, or the run ends there; only BEFORE may give 2 without the rule.
+//! must give the same answers and the same bytes, or the run ends there; only BEFORE may give 2 without the rule, or have no search
+//! by itself.
 use std::env::args;
 use std::process::ExitCode;
 
@@ -47,8 +48,12 @@ fn table(quick: bool, proved: &str, before: Option<&String>) -> Result<(), Strin
     Ok(())
 }
 
-fn print_row(case: &Case, times: &[f64]) {
-    let times_told: Vec<String> = times.iter().map(|time| format!("{time:.0}")).collect();
-    let ratios: Vec<String> = times[1..].iter().map(|time| format!("{:.2}", times[0] / time)).collect();
+/// A time below 100 ns has a decimal; what cannot be asked has a dash.
+fn print_row(case: &Case, times: &[Option<f64>]) {
+    let cell = |told: Option<String>| told.unwrap_or("-".to_string());
+    let digits = |time: f64| if time < 99.95 { 1 } else { 0 };
+    let times_told: Vec<String> = times.iter().map(|time| cell(time.map(|time| format!("{time:.*}", digits(time))))).collect();
+    let ratio = |time: &Option<f64>| Some(format!("{:.2}", times[0]? / (*time)?));
+    let ratios: Vec<String> = times[1..].iter().map(|time| cell(ratio(time))).collect();
     println!("| {} | {} | {} |", case.name, times_told.join(" | "), ratios.join(" | "));
 }

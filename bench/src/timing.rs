@@ -5,7 +5,7 @@ use std::time::{Duration, Instant};
 use model::board::{Board, BOARD_LEN};
 
 use crate::cases::Case;
-use crate::version::Version;
+use crate::version::{Asked, Request, Version};
 
 /// A board that begins where a line of the cache does, wherever it lies.
 #[repr(align(64))]
@@ -29,16 +29,25 @@ impl Timing {
         timing
     }
 
-    /// Nanoseconds of the case for each version. They take turns, so that none is the worse for coming first.
-    pub fn of_case(&self, case: &Case, versions: &[Version]) -> Vec<f64> {
-        let mut times = vec![f64::INFINITY; versions.len()];
+    /// Nanoseconds of the case for each version; nothing for one that cannot be asked. They take turns, so that none is the worse
+    /// for coming first.
+    pub fn of_case(&self, case: &Case, versions: &[Version]) -> Vec<Option<f64>> {
+        let can_be_asked = |version: &Version| version.ask(&mut case.boards[0].clone(), &case.asked).is_some();
+        let mut times: Vec<Option<f64>> = versions.iter().map(|version| can_be_asked(version).then_some(f64::INFINITY)).collect();
         for _ in 0..self.turns {
-            for (time, version) in times.iter_mut().zip(versions) {
-                let is_check = case.request.kind == 0;
-                *time = time.min(if is_check { self.checks(case, *version) } else { self.calls(case, *version) });
+            for (time, &version) in times.iter_mut().zip(versions) {
+                *time = time.map(|time| time.min(self.of_version(case, version)));
             }
         }
         times
+    }
+
+    fn of_version(&self, case: &Case, version: Version) -> f64 {
+        match case.asked {
+            Asked::Check => self.looks(case, |board| version.check(board)),
+            Asked::LowestFree => self.looks(case, |board| version.lowest_free(board)),
+            Asked::Call(request) => self.calls(case, version, &request),
+        }
     }
 
     /// The plain sum of the bytes of a board, as a measure of the machine.
@@ -51,24 +60,24 @@ impl Timing {
         self.best(128, &mut Lent([1; BOARD_LEN]), |_| (), batch)
     }
 
-    /// The check of the case's boards, one after the other as the case says.
-    fn checks(&self, case: &Case, version: Version) -> f64 {
+    /// A look at the case's boards, one after the other as the case says.
+    fn looks<T>(&self, case: &Case, look: impl Fn(&Board) -> T) -> f64 {
         let mut boards: Vec<Lent> = case.boards.iter().copied().map(Lent).collect();
         let batch = |boards: &mut Vec<Lent>| {
             for &turn in &case.turns {
-                black_box(version.check(black_box(&boards[turn].0)));
+                black_box(look(black_box(&boards[turn].0)));
             }
         };
         self.best(case.turns.len(), &mut boards, |_| (), batch)
     }
 
     /// The call on 16 equal boards in a row, few enough for the nearest cache; they are put back between the batches.
-    fn calls(&self, case: &Case, version: Version) -> f64 {
+    fn calls(&self, case: &Case, version: Version, request: &Request) -> f64 {
         let mut boards = [Lent(case.boards[0]); 16];
         let put_back = |boards: &mut [Lent; 16]| *boards = [Lent(*black_box(&case.boards[0])); 16];
         let batch = |boards: &mut [Lent; 16]| {
             for board in boards {
-                black_box(version.call(&mut board.0, black_box(&case.request)));
+                black_box(version.call(&mut board.0, black_box(request)));
             }
         };
         self.best(16, &mut boards, put_back, batch)

@@ -36,6 +36,12 @@ pub fn call(bytes: &mut [u8], kind: u8, words: [u16; 3], stat: u8, prio: u8) -> 
     calls::call(b, &found, kind, words, stat, prio)
 }
 
+/// The lowest-numbered free message, 0 for none; the search of claim by itself.
+#[inline(never)]
+pub fn lowest_free(bytes: &[u8]) -> u16 {
+    <&Board>::try_from(bytes).map_or(0, |b| calls::lowest_free(b) as u16)
+}
+
 /// An accepted call's answer, packed.
 #[inline(always)]
 fn accepted(value: usize, running: usize, delivered: usize) -> u64 {

@@ -1,12 +1,25 @@
-//! A version of the check and the calls: in Rust, or in a shared library with the C interface. All that is `unsafe` is here.
+//! A version of the check, the calls and claim's search: in Rust, or in a shared library with the C interface. All that is `unsafe` is here.
 use std::ffi::{c_char, c_int, c_void, CString};
 use std::mem::transmute;
 
+use model::board::{Board, MsgNo};
+use model::calls::lowest_free;
 use model::{Answer, Call};
 
 use crate::tuned;
 
-/// What is asked of a board: a kind and its arguments, kind 0 for the check.
+/// What is asked of a board.
+#[derive(Clone, Copy)]
+pub enum Asked {
+    /// The check.
+    Check,
+    /// The lowest-numbered free message: the search of claim by itself, without the check before it.
+    LowestFree,
+    /// A call.
+    Call(Request),
+}
+
+/// A call by its kind, with its arguments.
 #[derive(Clone, Copy)]
 #[allow(missing_docs)] // the fields bear the names of the C interface
 pub struct Request {
@@ -18,22 +31,24 @@ pub struct Request {
 
 type RustCheck = fn(&[u8]) -> u64;
 type RustCall = fn(&mut [u8], u8, [u16; 3], u8, u8) -> u64;
+type RustSearch = fn(&[u8]) -> u16;
 type CCheck = unsafe extern "C" fn(*const u8, usize) -> u64;
 type CCall = unsafe extern "C" fn(*mut u8, usize, u8, u16, u16, u16, u8, u8) -> u64;
+type CSearch = unsafe extern "C" fn(*const u8, usize) -> u16;
 
 /// A version. Answers are packed as the C interface does.
 #[derive(Clone, Copy)]
 pub enum Version {
     /// Functions of Rust.
-    Rust(RustCheck, RustCall),
-    /// Functions of a library.
-    C(CCheck, CCall),
+    Rust(RustCheck, RustCall, RustSearch),
+    /// Functions of a library; it may have no search by itself.
+    C(CCheck, CCall, Option<CSearch>),
 }
 
 /// The package `model`.
-pub const PLAIN: Version = Version::Rust(plain_check, plain_call);
+pub const PLAIN: Version = Version::Rust(plain_check, plain_call, plain_lowest_free);
 /// The module `tuned`.
-pub const TUNED: Version = Version::Rust(tuned::check, tuned::call);
+pub const TUNED: Version = Version::Rust(tuned::check, tuned::call, tuned::lowest_free);
 
 impl Version {
     /// The version in a shared library.
@@ -50,18 +65,20 @@ impl Version {
             let function = unsafe { dlsym(library, in_c.as_ptr()) };
             (!function.is_null()).then_some(function).ok_or(format!("{path} has no {name}"))
         };
-        let (check, call) = (find("station_check")?, find("station_call")?);
-        // SAFETY: the functions are of the types that include/station.h says
-        Ok(unsafe { Version::C(transmute::<*mut c_void, CCheck>(check), transmute::<*mut c_void, CCall>(call)) })
+        let (check, call, search) = (find("station_check")?, find("station_call")?, find("timed_lowest_free").ok());
+        // SAFETY: the functions are of the types that include/station.h and crates/timed say
+        let (check, call) = unsafe { (transmute::<*mut c_void, CCheck>(check), transmute::<*mut c_void, CCall>(call)) };
+        // SAFETY: the same
+        Ok(Version::C(check, call, search.map(|search| unsafe { transmute::<*mut c_void, CSearch>(search) })))
     }
 
     /// The check.
     #[inline(always)]
     pub fn check(self, board: &[u8]) -> u64 {
         match self {
-            Version::Rust(check, _) => check(board),
+            Version::Rust(check, ..) => check(board),
             // SAFETY: the library reads the lent bytes only
-            Version::C(check, _) => unsafe { check(board.as_ptr(), board.len()) },
+            Version::C(check, ..) => unsafe { check(board.as_ptr(), board.len()) },
         }
     }
 
@@ -70,18 +87,29 @@ impl Version {
     pub fn call(self, board: &mut [u8], request: &Request) -> u64 {
         let Request { kind, words: [a, b, c], stat, prio } = *request;
         match self {
-            Version::Rust(_, call) => call(board, kind, [a, b, c], stat, prio),
+            Version::Rust(_, call, _) => call(board, kind, [a, b, c], stat, prio),
             // SAFETY: the library reads and writes the lent bytes only, and keeps no pointer
-            Version::C(_, call) => unsafe { call(board.as_mut_ptr(), board.len(), kind, a, b, c, stat, prio) },
+            Version::C(_, call, _) => unsafe { call(board.as_mut_ptr(), board.len(), kind, a, b, c, stat, prio) },
         }
     }
 
-    /// The check or the call.
-    pub fn ask(self, board: &mut [u8], request: &Request) -> u64 {
-        if request.kind == 0 {
-            return self.check(board);
+    /// The lowest-numbered free message, 0 for none; nothing where the version has no search by itself.
+    #[inline(always)]
+    pub fn lowest_free(self, board: &[u8]) -> Option<u16> {
+        match self {
+            Version::Rust(.., search) => Some(search(board)),
+            // SAFETY: the library reads the lent bytes only
+            Version::C(.., search) => search.map(|search| unsafe { search(board.as_ptr(), board.len()) }),
         }
-        self.call(board, request)
+    }
+
+    /// Whatever is asked.
+    pub fn ask(self, board: &mut [u8], asked: &Asked) -> Option<u64> {
+        match asked {
+            Asked::Check => Some(self.check(board)),
+            Asked::LowestFree => self.lowest_free(board).map(u64::from),
+            Asked::Call(request) => Some(self.call(board, request)),
+        }
     }
 }
 
@@ -93,6 +121,11 @@ fn plain_check(board: &[u8]) -> u64 {
 #[inline(never)]
 fn plain_call(board: &mut [u8], kind: u8, [a, b, c]: [u16; 3], stat: u8, prio: u8) -> u64 {
     Call::from_kind(kind, a, b, c, stat, prio).map_or(255, |call| packed(model::step(board, call)))
+}
+
+#[inline(never)]
+fn plain_lowest_free(board: &[u8]) -> u16 {
+    <&Board>::try_from(board).ok().and_then(lowest_free).map_or(0, MsgNo::number)
 }
 
 fn packed(answer: Answer) -> u64 {

@@ -11,10 +11,12 @@ fn tuned_and_model_agree() {
         (0..8).for_each(|i| all.rules[i] += seen.rules[i]);
         (0..32).for_each(|i| all.refusals[i] += seen.refusals[i]);
         (0..32).for_each(|i| all.accepted[i] += seen.accepted[i]);
+        (0..5).for_each(|i| all.free[i] += seen.free[i]);
     }
     assert!((1..=7).all(|rule| all.rules[rule] > 300), "broken rules {:?}", all.rules);
     assert!((0..=14).all(|refusal| all.refusals[refusal] > 0), "refusals {:?}", all.refusals);
     assert!((1..=19).all(|kind| all.accepted[kind] > 0), "accepted {:?}", all.accepted);
+    assert!((0..=4).all(|spot| all.free[spot] > 300), "free {:?}", all.free);
 }
 
 #[test]
@@ -33,11 +35,14 @@ fn a_version_that_errs_is_noticed() {
         let told = TUNED.call(board, &Request { kind, words, stat, prio });
         told | u64::from(told == 0x0302) << 16
     };
+    // the first of its group in place of the one that is free
+    let first_of_four = |board: &[u8]| tuned::lowest_free(board).saturating_sub(1) / 4 * 4 + tuned::lowest_free(board).min(1);
     let erring = [
-        Version::Rust(|_| 0, |_, _, _, _, _| 0),
-        Version::Rust(check, call),
-        Version::Rust(no_rule, tuned::call),
-        Version::Rust(tuned::check, record_with_r3),
+        Version::Rust(|_| 0, |_, _, _, _, _| 0, |_| 0),
+        Version::Rust(check, call, tuned::lowest_free),
+        Version::Rust(no_rule, tuned::call, tuned::lowest_free),
+        Version::Rust(tuned::check, record_with_r3, tuned::lowest_free),
+        Version::Rust(tuned::check, tuned::call, first_of_four),
     ];
     assert!(erring.into_iter().all(|version| (1001..=1003).any(|seed| on_cases(seed, 2000, version).is_err())));
 }

@@ -262,9 +262,13 @@ fn wait_for_interrupt(b: &mut Board, c: TaskNo) -> Done {
 
 // Messages
 
+/// The lowest-numbered free message, if any.
+pub fn lowest_free(b: &Board) -> Option<MsgNo> {
+    (1..).zip(&b[PLACES_AT..]).find(|(_, place)| **place == 0).and_then(|(number, _)| MsgNo::new(number))
+}
+
 fn claim(b: &mut Board, c: TaskNo) -> Done {
-    let free = (1..).zip(&b[PLACES_AT..]).find(|(_, place)| **place == 0).and_then(|(number, _)| MsgNo::new(number));
-    let m = free.ok_or(Refusal::NoneFree)?;
+    let m = lowest_free(b).ok_or(Refusal::NoneFree)?;
     b[m.place_at()] = c.held_place();
     Ok(m.number())
 }

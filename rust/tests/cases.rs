@@ -109,6 +109,11 @@ fn damaged_boards() {
 }
 
 #[test]
+fn full_boards() {
+    compare("full_boards");
+}
+
+#[test]
 fn cases_of_an_independent_model() {
     ["outside_check", "outside_history", "outside_damaged"].into_iter().for_each(compare);
 }

@@ -176,9 +176,9 @@ fn cancel_task(b: &mut Board, c: usize, k: usize) -> u64 {
     accepted(0, c, 0)
 }
 
-/// The lowest free message, 0 for none.
+/// The lowest-numbered free message, 0 for none.
 #[inline(always)]
-fn lowest_free(b: &Board) -> usize {
+pub fn lowest_free(b: &Board) -> usize {
     for (i, p) in pieces(&b[PLACES_AT..]).enumerate() {
         let p = u64::from_le_bytes(*p);
         // the lowest zero byte: carries can only mark bytes above it

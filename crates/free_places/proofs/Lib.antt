@@ -1,3 +1,3 @@
 mod Masks
-mod Taken
+mod Groups
 mod Search

@@ -21,8 +21,8 @@ use Rattle.board.specs.Board.{Board, boardOf, place}
 use Rattle.board.proofs.places.Place.{the-type}
 use Rattle.paper.specs.Effects.{lowestFree}
 use Rattle.inner.proofs.Searching.{foundAbove, found-here, found-above, found-none}
-use Rattle.free_places.specs.Fours.{isTaken, fourTaken}
-use Rattle.free_places.proofs.Taken.{four-within}
+use Rattle.free_places.specs.Fours.{inUse, noneFree}
+use Rattle.free_places.proofs.Groups.{four-within}
 
 -- the messages up to m are not free: the lowest above them is the lowest
 abbrev pub Sought : Board → ℕ → Type 0
@@ -39,20 +39,20 @@ module _ (z : Size) (l : List ℕ) where
   abbrev b : Board
   b = boardOf z l
 
-  -- n, the one behind m, is taken
-  behind-one : (m n : ℕ) → n ≡ m + 1 → m < z .messages → isTaken b n ≡ true → Sought b m → Sought b n
+  -- n, the one behind m, is in use
+  behind-one : (m n : ℕ) → n ≡ m + 1 → m < z .messages → inUse b n ≡ true → Sought b m → Sought b n
   behind-one m n e h t inv =
       ap (foundAbove isFree b) e
       ∙ found-above (λ x. x) isFree z l m inv h (ap (λ (x : ℕ). isFree (place b x)) (sym e) ∙ not-true _ t)
 
   module _ (m : ℕ) (inv : Sought b m) where
-    -- the four behind m are taken
-    pub behind-four : fourTaken b m ≡ true → Sought b (m + 4)
+    -- none of the four behind m is free
+    pub behind-four : noneFree b m ≡ true → Sought b (m + 4)
     behind-four e =
         let h = four-within z l m e in
-        let one = both (isTaken b (m + 1)) _ e in
-        let two = both (isTaken b (m + 2)) _ (one .1) in
-        let three = both (isTaken b (m + 3)) (isTaken b (m + 4)) (two .1) in
+        let one = both (inUse b (m + 1)) _ e in
+        let two = both (inUse b (m + 2)) _ (one .1) in
+        let three = both (inUse b (m + 3)) (inUse b (m + 4)) (two .1) in
         behind-one (m + 3) (m + 4) (omega arith) (omega arith) (three .1)
         (behind-one (m + 2) (m + 3) (omega arith) (omega arith) (three .0)
         (behind-one (m + 1) (m + 2) (omega arith) (omega arith) (two .0)

@@ -1,10 +1,10 @@
-// Four place bytes tested together, as one number.
+// A group of four place bytes, tested together as one number.
 ghost use mathlib.Core.Path.{_≡_};
 ghost use mathlib.Core.List.{[], _∷_};
 ghost use Prim.Native.Nat.{_≤_, _<_};
 ghost use lib.ListN.{length};
 ghost use Rattle.board.specs.Board.{boardOf, total};
-ghost use Rattle.free_places.specs.Fours.{noneZero, fourTaken};
+ghost use Rattle.free_places.specs.Fours.{noneZero, noneFree};
 use board::numbers::Size;
 use std::num::wrapping_sub_u32;
 
@@ -15,8 +15,8 @@ fn wide(p: u8) -> u32
     p as u32
 }
 
-// None of the four is 0. In the number that they are, less 1 in each byte, a byte has its highest bit where it is above 80H, which it had
-// before, or where it is a 0 that borrowed: that one is marked. A borrow can mark another byte only above such a one.
+// None of the four bytes is 0. With 1 taken off each byte of their number, a byte has a highest bit that it had not before only where it
+// borrowed, and the lowest that borrows is a 0.
 fn none_zero(first: u8, second: u8, third: u8, fourth: u8) -> bool
     ensures { λ res. ⌜ res ≡ noneZero (first ∷ second ∷ third ∷ fourth ∷ []) ⌝ }
 {
@@ -25,9 +25,9 @@ fn none_zero(first: u8, second: u8, third: u8, fourth: u8) -> bool
 }
 
 // None of the messages m+1 to m+4 is free. One that the board does not have reads as free, and no byte is read for it.
-pub fn four_taken(z: Size, l: &[u8], m: u16) -> bool
+pub fn none_free(z: Size, l: &[u8], m: u16) -> bool
     requires { ⌜ total z ≤ length (now l) ⌝ }
-    ensures { λ res. ⌜ res ≡ fourTaken (boardOf z (now (l .entry))) m ⌝ }
+    ensures { λ res. ⌜ res ≡ noneFree (boardOf z (now (l .entry))) m ⌝ }
 {
     if (z.messages as usize) < m as usize + 4 {
         return false;

@@ -1,5 +1,5 @@
-// CODE. The lowest-numbered free message, which claim takes: document 02, Ask 2. Four place bytes are tested together (fours), and the
-// messages one by one only where one of the four is free, or where the board has no four more.
+// CODE. The lowest-numbered free message, which claim takes. Places are tested in groups of four (document 02, Ask 2), and one by one only
+// where a group has a free one, or where the board has no four more.
 mod fours;
 
 ghost use mathlib.Core.Path.{_≡_};
@@ -8,7 +8,7 @@ ghost use lib.ListN.{length};
 ghost use Rattle.board.specs.Numbers.{messageMeant};
 ghost use Rattle.board.specs.Board.{boardOf, total};
 ghost use Rattle.paper.specs.Effects.{lowestFree};
-use crate::fours::four_taken;
+use crate::fours::none_free;
 use board::numbers::MessageMeant;
 use board::numbers::MsgNo;
 use board::numbers::Size;
@@ -22,7 +22,7 @@ pub fn lowest_free(z: Size, l: &[u8]) -> MessageMeant
 {
     let most = z.messages;
     let mut m: u16 = 0;
-    while four_taken(z, l, m) {
+    while none_free(z, l, m) {
         m += 4;
     }
     while m < most {

@@ -4,7 +4,7 @@ use Prim.Native.Nat.{_-_}
 use native.Mathlib.Omega.{arith}
 use denote.Ref.{now}
 use Rattle.board.specs.Board.{boardOf}
-use Rattle.free_places.proofs.Taken.{four-within}
+use Rattle.free_places.proofs.Groups.{four-within}
 use Rattle.free_places.proofs.Search.{Sought, behind-four, free-none, free-here, free-above}
 use borrow.Author.Needs.{needs}
 use Rattle.free_places.proofs.lowest_free.Statement.{statement}
@@ -29,19 +29,19 @@ add-m : tie.Need-add-m Inv-loop μ-loop Inv-loop2 μ-loop2
 add-m c =
     let s = c .before .before in
     let a = s .before .before .args in
-    omega (arith, four-within (a .z) (now (a .l)) (s .loop .m) (sym (c .before .four-taken .ensures) ∙ c .if1 .taken))
+    omega (arith, four-within (a .z) (now (a .l)) (s .loop .m) (sym (c .before .none-free .ensures) ∙ c .if1 .taken))
 
 loop-less : tie.Need-loop-less Inv-loop μ-loop Inv-loop2 μ-loop2
 loop-less c =
     let s = c .before .before in
     let a = s .before .before .args in
-    omega (arith, four-within (a .z) (now (a .l)) (s .loop .m) (sym (c .before .four-taken .ensures) ∙ c .if1 .taken))
+    omega (arith, four-within (a .z) (now (a .l)) (s .loop .m) (sym (c .before .none-free .ensures) ∙ c .if1 .taken))
 
 loop-again : tie.Need-loop-again Inv-loop μ-loop Inv-loop2 μ-loop2
 loop-again c =
     let s = c .before .before in
     let a = s .before .before .args in
-    let e = sym (c .before .four-taken .ensures) ∙ c .if1 .taken in
+    let e = sym (c .before .none-free .ensures) ∙ c .if1 .taken in
     (s .loop .inv .0, behind-four (a .z) (now (a .l)) (s .loop .m) (s .loop .inv .1) e)
 
 loop2-holds : tie.Need-loop2-holds Inv-loop μ-loop Inv-loop2 μ-loop2

@@ -1,11 +1,11 @@
--- `free_places::fours::four_taken` meets its contract.
+-- `free_places::fours::none_free` meets its contract.
 use mathlib.Core.Path.{refl, sym, _∙_}
 use native.Mathlib.Omega.{arith}
 use denote.Ref.{now}
-use Rattle.free_places.proofs.Taken.{four-bytes, four-beyond}
+use Rattle.free_places.proofs.Groups.{four-bytes, four-beyond}
 use borrow.Author.Needs.{needs}
-use Rattle.free_places.proofs.fours.four_taken.Statement.{statement}
-use Rattle.free_places.proofs.fours.four_taken.Tie as tie
+use Rattle.free_places.proofs.fours.none_free.Statement.{statement}
+use Rattle.free_places.proofs.fours.none_free.Tie as tie
 
 returns : tie.Need-returns
 returns c = let a = c .before .before .before .args in sym (four-beyond (a .z) (now (a .l)) (a .m) (omega arith))
@@ -20,8 +20,8 @@ returns-2 c =
     let a = t .before .before .before .args in
     c .none-zero .ensures ∙ four-bytes (a .z) (now (a .l)) (a .m) _ (t .if1 .left) refl
 
-pub four-taken-spec : {M : Type 1} → statement M
-four-taken-spec =
+pub none-free-spec : {M : Type 1} → statement M
+none-free-spec =
     tie.close
     (tie.spec (λ c. search needs) (λ c. search needs) returns (λ c. search needs) (λ c. search needs)
     (λ c. search needs) (λ c. search needs) (λ c. search needs) (λ c. search needs) (λ c. search needs)

@@ -1,0 +1,64 @@
+#!/usr/bin/env python3
+"""Makes claims on full and nearly full boards: none free, each message by itself the only free one, and whatever of a group of
+four can be free, in the first group, one in the middle and the last. What is not free is held by one task, held by all in turn,
+queued at all in turn, or held and queued by turns. Written from documents 01 and 02 (Ask 2) alone.
+usage: full_boards.py CASES ANSWERS   (a case: length word, call of 9 bytes, board; an answer: a line of refusal, value,
+running, delivered, rule, record and each byte that changed)"""
+import struct
+import sys
+
+TASKS, MESSAGES, CLAIM = 32, 128, 5
+# whether message m is queued, and the task that has it
+WAYS = [lambda m: (False, 1), lambda m: (False, 1 + m % TASKS), lambda m: (True, 1 + m % TASKS),
+        lambda m: (m % 3 > 0, 1 + m // 7 % TASKS)]
+
+
+def task(k):
+    return 4 + 10 * (k - 1)
+
+
+def message(m):
+    return 324 + 8 * (m - 1)
+
+
+def place(m):
+    return 1348 + m - 1
+
+
+def board(way, free):
+    """32 ready tasks in the order of their numbers; messages of one priority, in each queue in the order of their numbers."""
+    b = bytearray(1476)
+    b[0] = 1
+    ends = {}
+    for k in range(1, TASKS + 1):
+        b[task(k):task(k) + 3] = 0x01, 0x33, k + 1 if k < TASKS else 0
+        ends[k] = task(k) + 4
+    for m in set(range(1, MESSAGES + 1)) - free:
+        queued, k = way(m)
+        b[message(m) + 1] = 0x33
+        b[place(m)] = 64 + k if queued else k
+        if queued:
+            b[ends[k]] = m
+            ends[k] = message(m) + 2
+    return bytes(b)
+
+
+def free_sets():
+    yield set()
+    yield set(range(1, MESSAGES + 1))
+    yield from ({m} for m in range(1, MESSAGES + 1))
+    for before in (0, 60, 124):
+        yield from ({before + i for i in range(1, 5) if some >> i & 1} for some in range(2, 32, 2))
+
+
+def main(cases_file, answers_file):
+    with open(cases_file, "wb") as out, open(answers_file, "w") as said:
+        for free in free_sets():
+            for way in WAYS:
+                b = board(way, free)
+                out.write(struct.pack("<HBHHHBB", len(b), CLAIM, 0, 0, 0, 0, 0) + b)
+                lowest = min(free, default=0)
+                said.write(f"0 {lowest} 1 0 0 0 {place(lowest)}=1\n" if free else "11 0 0 0 0 0\n")
+
+
+main(*sys.argv[1:])
