@@ -31,11 +31,11 @@ pub fn on_cases(seed: u64, count: usize, version: Version) -> Result<Seen, Strin
         if version.check(&case.board) != checked {
             return differs("check");
         }
-        let lowest_free = PLAIN.lowest_free(&case.board);
+        let free = PLAIN.lowest_free(&case.board);
         if case.board.len() == BOARD_LEN {
-            seen.free[lowest_free.map_or(0, |m| usize::from(m.min(1) + m.saturating_sub(1) % 4))] += 1;
+            seen.free[free.map_or(0, spot_in_group)] += 1;
         }
-        if version.lowest_free(&case.board).is_some_and(|free| Some(free) != lowest_free) {
+        if version.lowest_free(&case.board).is_some_and(|found| Some(found) != free) {
             return differs("lowest free message");
         }
         if [CHECK, FRESH].contains(&asked.kind) {
@@ -53,6 +53,11 @@ pub fn on_cases(seed: u64, count: usize, version: Version) -> Result<Seen, Strin
         seen.count(request.kind, told as u8);
     }
     Ok(seen)
+}
+
+/// Which of its group of four a message is, from 1; 0 for no message.
+fn spot_in_group(message: u16) -> usize {
+    message.checked_sub(1).map_or(0, |before| usize::from(before % 4) + 1)
 }
 
 impl Seen {

@@ -1,4 +1,5 @@
-//! A version of the check, the calls and claim's search: in Rust, or in a shared library with the C interface. All that is `unsafe` is here.
+//! A version of the check, the calls and claim's search: in Rust, or in a shared library with the C interface. All that is
+//! `unsafe` is here.
 use std::ffi::{c_char, c_int, c_void, CString};
 use std::mem::transmute;
 

@@ -35,14 +35,14 @@ fn a_version_that_errs_is_noticed() {
         let told = TUNED.call(board, &Request { kind, words, stat, prio });
         told | u64::from(told == 0x0302) << 16
     };
-    // the first of its group in place of the one that is free
-    let first_of_four = |board: &[u8]| tuned::lowest_free(board).saturating_sub(1) / 4 * 4 + tuned::lowest_free(board).min(1);
+    // in place of the one that is free the first of its group
+    let first_of_group = |board: &[u8]| tuned::lowest_free(board).checked_sub(1).map_or(0, |before| before / 4 * 4 + 1);
     let erring = [
         Version::Rust(|_| 0, |_, _, _, _, _| 0, |_| 0),
         Version::Rust(check, call, tuned::lowest_free),
         Version::Rust(no_rule, tuned::call, tuned::lowest_free),
         Version::Rust(tuned::check, record_with_r3, tuned::lowest_free),
-        Version::Rust(tuned::check, tuned::call, first_of_four),
+        Version::Rust(tuned::check, tuned::call, first_of_group),
     ];
     assert!(erring.into_iter().all(|version| (1001..=1003).any(|seed| on_cases(seed, 2000, version).is_err())));
 }

@@ -1,10 +1,11 @@
--- 'None of these bytes is 0', tested of all of them together as one number. Take 1 off each byte: a byte then has a highest bit that it
--- had not before only by a borrow, and the lowest byte that borrows is 0. The law is for any number of bytes, one byte a step from the
--- lowest up, so no borrow is followed; what is computed is one byte's 255 values.
+-- 'None of these bytes is 0', tested of all of them together as one number (document 02, Ask 2). Take 1 off each byte: a byte then has a
+-- highest bit that it had not before, its mark, only where it borrowed, and the lowest that borrows is a 0. The law is of any bytes and any
+-- number of them, a byte a step from the lowest up: below the first 0 nothing borrows, and behind it the answer is known. What is computed
+-- is the 255 values of one byte.
 --   number l       the bytes l as one number, the lowest first
 --   ones n         1 in each of n bytes
 --   above n        the first number that n bytes cannot hold
---   marks n r x    of n bytes the highest bits that r has and x has not
+--   marks n r x    the highest bits of the n bytes that r has and x has not; mark q p of one byte
 -- Assumes nothing.
 use mathlib.Core.Path.{_≡_, refl, sym, ap, ap₂, _∙_}
 use mathlib.Core.Bool.{Bool, not, _&&_}
@@ -22,7 +23,7 @@ use Rattle.board.proofs.EveryByte.{below-at}
 use Rattle.board.proofs.Codec.{Small}
 use Rattle.free_places.specs.Fours.{noneZero}
 
-abbrev pub number : List ℕ → ℕ
+abbrev number : List ℕ → ℕ
 number [] = 0
 number (p ∷ l) = p + 256 * number l
 
@@ -42,7 +43,6 @@ above-pos zero = omega arith
 above-pos (suc n) = omega (arith, above-pos n)
 
 -- ---- the lowest byte by itself
--- its mark: q is what the byte p has become
 abbrev mark : ℕ → ℕ → ℕ
 mark q p = bitAnd (bitAnd q (255 - p)) 128
 
@@ -74,41 +74,49 @@ no-mark a = go (ℕ-discrete a 0)
     go (yes e) = eq-eqb (a * 256 + 0) 0 (omega arith) ∙ sym (eq-eqb a 0 e)
     go (no h) = ne-eqb (a * 256 + 0) 0 (λ (e : a * 256 + 0 ≡ 0). h (omega arith)) ∙ sym (ne-eqb a 0 h)
 
--- ---- there is no mark exactly if none of the bytes is 0, where r is their number less 1 in each byte
+-- r is a number of n + 1 bytes, the lowest of them q; with 1 more in each byte it is the byte p and y above it
+module _ (n r s q p y : ℕ) (er : r ≡ s * 256 + q) (hp : p < 256) (e : (r + ones (suc n)) % above (suc n) ≡ p + 256 * y) where
+  -- the sum by its lowest byte k, with t above it
+  sum : (t k : ℕ) → k < 256 → r + ones (suc n) ≡ t * 256 + k → t % above n * 256 + k ≡ p + 256 * y
+  sum t k hk et = sym (wraps (above n) (r + ones (suc n)) t k (above-pos n) hk et) ∙ e
+
+  -- q is 255: p is 0, it has borrowed, and is marked
+  borrows : q ≡ 255 → (p ≡ 0) × (marks (suc n) r (p + 256 * y) ≡ marks n s y * 256 + 128)
+  borrows full =
+      let f = sum (s + ones n + 1) 0 (omega arith) (omega arith) in
+      let fits = mod-lt (s + ones n + 1) (above-pos n) in
+      let x : p + 256 * y ≡ y * 256 + 0 = omega arith in
+      let m = marks-more n s y 255 0 (omega arith) (omega arith) (omega arith) in
+      (omega arith, ap₂ (marks (suc n)) (er ∙ ap (λ (u : ℕ). s * 256 + u) full) x ∙ m)
+
+  -- it is less: p is one more, nothing is borrowed, and p is not marked
+  borrows-not : q < 255 → (p ≡ q + 1) × ((s + ones n) % above n ≡ y) × (marks (suc n) r (p + 256 * y) ≡ marks n s y * 256 + 0)
+  borrows-not less =
+      let f = sum (s + ones n) (q + 1) (omega arith) (omega arith) in
+      let fits = mod-lt (s + ones n) (above-pos n) in
+      let x : p + 256 * y ≡ y * 256 + (q + 1) = omega arith in
+      let m = marks-more n s y q (q + 1) (omega arith) (omega arith) (omega arith) in
+      let none = ap (λ (u : ℕ). marks n s y * 256 + u) (mark-none q less) in
+      (omega arith, omega arith, ap₂ (marks (suc n)) er x ∙ m ∙ none)
+
+-- ---- all bytes: there is no mark exactly if none of them is 0, where r is their number less 1 in each byte
 pub marked : (l : List ℕ) → Small l → (r : ℕ) → (r + ones (length l)) % above (length l) ≡ number l
     → eqb (marks (length l) r (number l)) 0 ≡ noneZero l
 marked [] h r e = eq-eqb _ 0 (and-zero-r (bitAnd r (above 0 - 1 - 0)))
 marked (p ∷ l) h r e =
-    go (r / 256) (r % 256) (mod-lt r (omega arith)) (sym (div-add-mod' r 256)) (ℕ-discrete (r % 256) 255) (marked l (h .1))
+    go (r / 256) (r % 256) (sym (div-add-mod' r 256)) (mod-lt r (omega arith)) (ℕ-discrete (r % 256) 255) (marked l (h .1))
   where
-    n : ℕ
-    n = length l
-
-    -- the lowest byte q of r, and s above it; p is q + 1, or it is 0 and has borrowed
-    go : (s q : ℕ) → q < 256 → r ≡ s * 256 + q → Dec (q ≡ 255)
-        → ((s : ℕ) → (s + ones n) % above n ≡ number l → eqb (marks n s (number l)) 0 ≡ noneZero l)
-        → eqb (marks (suc n) r (p + 256 * number l)) 0 ≡ (not (eqb p 0) && noneZero l)
-    go s q hq er (yes full) ih =
-        let f : (s + ones n + 1) % above n * 256 + 0 ≡ p + 256 * number l =
-        sym (wraps (above n) (r + ones (suc n)) (s + ones n + 1) 0 (above-pos n) (omega arith) (omega arith)) ∙ e in
-        let zero-byte : p ≡ 0 = omega (arith, h .0) in
-        let fits = mod-lt (s + ones n + 1) (above-pos n) in
-        let x : p + 256 * number l ≡ number l * 256 + 0 = omega arith in
-        let m = ap₂ (marks (suc n)) (er ∙ ap (λ (u : ℕ). s * 256 + u) full) x
-        ∙ marks-more n s (number l) 255 0 (omega arith) (omega arith) (omega arith) in
-        ap (λ (u : ℕ). eqb u 0) m ∙ ne-eqb (marks n s (number l) * 256 + 128) 0 (λ i. omega arith)
-        ∙ sym (ap (λ (t : Bool). not t && noneZero l) (eq-eqb p 0 zero-byte))
-    go s q hq er (no less) ih =
-        let f : (s + ones n) % above n * 256 + (q + 1) ≡ p + 256 * number l =
-        sym (wraps (above n) (r + ones (suc n)) (s + ones n) (q + 1) (above-pos n) (omega arith) (omega arith)) ∙ e in
-        let next : p ≡ q + 1 = omega (arith, h .0) in
-        let above-it : (s + ones n) % above n ≡ number l = omega (arith, h .0) in
-        let fits = mod-lt (s + ones n) (above-pos n) in
-        let x : p + 256 * number l ≡ number l * 256 + (q + 1) = omega arith in
-        let m = ap₂ (marks (suc n)) er x ∙ marks-more n s (number l) q (q + 1) hq (omega arith) (omega arith)
-        ∙ ap (λ (u : ℕ). marks n s (number l) * 256 + u) (mark-none q (omega arith)) in
-        ap (λ (u : ℕ). eqb u 0) m ∙ no-mark (marks n s (number l)) ∙ ih s above-it
-        ∙ sym (ap (λ (t : Bool). not t && noneZero l) (ne-eqb p 0 (λ (i : p ≡ 0). omega arith)))
+    go : (s q : ℕ) → r ≡ s * 256 + q → q < 256 → Dec (q ≡ 255)
+        → ((s : ℕ) → (s + ones (length l)) % above (length l) ≡ number l → eqb (marks (length l) s (number l)) 0 ≡ noneZero l)
+        → eqb (marks (suc (length l)) r (p + 256 * number l)) 0 ≡ (not (eqb p 0) && noneZero l)
+    go s q er hq (yes full) ih =
+        let b = borrows (length l) r s q p (number l) er (h .0) e full in
+        ap (λ (u : ℕ). eqb u 0) (b .1) ∙ ne-eqb (marks (length l) s (number l) * 256 + 128) 0 (λ i. omega arith)
+        ∙ sym (ap (λ (t : Bool). not t && noneZero l) (eq-eqb p 0 (b .0)))
+    go s q er hq (no less) ih =
+        let b = borrows-not (length l) r s q p (number l) er (h .0) e (omega arith) in
+        ap (λ (u : ℕ). eqb u 0) (b .2) ∙ no-mark (marks (length l) s (number l)) ∙ ih s (b .1)
+        ∙ sym (ap (λ (t : Bool). not t && noneZero l) (ne-eqb p 0 (λ (i : p ≡ 0). omega (arith, b .0))))
 
 -- four bytes p, q, s and t, which the code holds as a, b, c and d, and their number x
 pub four-marked : {a b c d p q s t x : ℕ} (r : ℕ) → (a ≡ p) × (a < 256) → (b ≡ q) × (b < 256) → (c ≡ s) × (c < 256)
