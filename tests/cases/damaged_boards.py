@@ -9,21 +9,10 @@ running, delivered, rule, record and each byte that changed)"""
 import random
 import sys
 
-TASKS, MESSAGES = 32, 128
+from layout import MESSAGES, TASKS, message, place, task
+
 CHECK, CALLS, FRESH, NO_CALLS = 0, range(1, 20), 254, (20, 21, 22, 64, 128, 253, 255)
 WAIT, IWAT, BIT5, INTQ, DEBUG, MROB, MHBS, TCBB = 128, 64, 32, 16, 8, 4, 2, 1
-
-
-def task(k):
-    return 4 + 10 * (k - 1)
-
-
-def message(m):
-    return 324 + 8 * (m - 1)
-
-
-def place(m):
-    return 1348 + m - 1
 
 
 def word(b, i):

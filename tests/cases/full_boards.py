@@ -7,22 +7,12 @@ running, delivered, rule, record and each byte that changed)"""
 import struct
 import sys
 
-TASKS, MESSAGES, CLAIM = 32, 128, 5
+from layout import MESSAGES, TASKS, message, place, task
+
+CLAIM = 5
 # whether message m is queued, and the task that has it
 WAYS = [lambda m: (False, 1), lambda m: (False, 1 + m % TASKS), lambda m: (True, 1 + m % TASKS),
         lambda m: (m % 3 > 0, 1 + m // 7 % TASKS)]
-
-
-def task(k):
-    return 4 + 10 * (k - 1)
-
-
-def message(m):
-    return 324 + 8 * (m - 1)
-
-
-def place(m):
-    return 1348 + m - 1
 
 
 def board(way, free):
@@ -33,7 +23,7 @@ def board(way, free):
     for k in range(1, TASKS + 1):
         b[task(k):task(k) + 3] = 0x01, 0x33, k + 1 if k < TASKS else 0
         ends[k] = task(k) + 4
-    for m in set(range(1, MESSAGES + 1)) - free:
+    for m in sorted(set(range(1, MESSAGES + 1)) - free):
         queued, k = way(m)
         b[message(m) + 1] = 0x33
         b[place(m)] = 64 + k if queued else k

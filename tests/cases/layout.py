@@ -1,0 +1,14 @@
+"""Where the records of a board lie, for the scripts beside this one: document 01, 'What the board holds'."""
+TASKS, MESSAGES = 32, 128
+
+
+def task(k):
+    return 4 + 10 * (k - 1)
+
+
+def message(m):
+    return 324 + 8 * (m - 1)
+
+
+def place(m):
+    return 1348 + m - 1
