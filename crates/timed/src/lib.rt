@@ -7,8 +7,8 @@ ghost use lib.ListN.{length};
 ghost use Rattle.board.specs.Numbers.{small, messageMeant, numberOfMessage};
 ghost use Rattle.board.specs.Board.{boardOf, total};
 ghost use Rattle.paper.specs.Effects.{lowestFree};
+use block_calls::lowest_free;
 use board::numbers::Size;
-use free_places::lowest_free;
 
 // The lowest-numbered free message of a board, 0 if none; and 0 for bytes of another length.
 #[no_mangle]

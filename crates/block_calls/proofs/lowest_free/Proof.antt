@@ -1,14 +1,14 @@
--- `free_places::lowest_free` meets its contract.
+-- `block_calls::lowest_free` meets its contract.
 use mathlib.Core.Path.{_≡_, refl, sym, _∙_}
 use Prim.Native.Nat.{_-_}
 use native.Mathlib.Omega.{arith}
 use denote.Ref.{now}
 use Rattle.board.specs.Board.{boardOf}
-use Rattle.free_places.proofs.Groups.{four-within}
-use Rattle.free_places.proofs.Search.{Sought, behind-four, free-none, free-here, free-above}
+use Rattle.four_places.proofs.Groups.{four-within}
+use Rattle.block_calls.proofs.Search.{Sought, behind-four, free-none, free-here, free-above}
 use borrow.Author.Needs.{needs}
-use Rattle.free_places.proofs.lowest_free.Statement.{statement}
-use Rattle.free_places.proofs.lowest_free.Tie as tie
+use Rattle.block_calls.proofs.lowest_free.Statement.{statement}
+use Rattle.block_calls.proofs.lowest_free.Tie as tie
 
 abbrev Inv-loop : tie.InvT-loop
 Inv-loop z l most m₀ m = (most ≡ z .messages) × Sought (boardOf z l) m

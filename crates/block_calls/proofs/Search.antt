@@ -21,10 +21,10 @@ use Rattle.board.specs.Board.{Board, boardOf, place}
 use Rattle.board.proofs.places.Place.{the-type}
 use Rattle.paper.specs.Effects.{lowestFree}
 use Rattle.inner.proofs.Searching.{foundAbove, found-here, found-above, found-none}
-use Rattle.free_places.specs.Fours.{inUse, noneFree}
-use Rattle.free_places.proofs.Groups.{four-within}
+use Rattle.four_places.specs.Fours.{inUse, noneFree}
+use Rattle.four_places.proofs.Groups.{four-within}
 
--- the messages up to m are not free: the lowest above them is the lowest
+-- the search has come to m: the lowest free message above it is the lowest of all
 abbrev pub Sought : Board → ℕ → Type 0
 Sought b m = foundAbove isFree b m ≡ lowestFree b
 

@@ -1,11 +1,11 @@
--- `free_places::fours::none_free` meets its contract.
+-- `four_places::none_free` meets its contract.
 use mathlib.Core.Path.{refl, sym, _∙_}
 use native.Mathlib.Omega.{arith}
 use denote.Ref.{now}
-use Rattle.free_places.proofs.Groups.{four-bytes, four-beyond}
+use Rattle.four_places.proofs.Groups.{four-bytes, four-beyond}
 use borrow.Author.Needs.{needs}
-use Rattle.free_places.proofs.fours.none_free.Statement.{statement}
-use Rattle.free_places.proofs.fours.none_free.Tie as tie
+use Rattle.four_places.proofs.none_free.Statement.{statement}
+use Rattle.four_places.proofs.none_free.Tie as tie
 
 returns : tie.Need-returns
 returns c = let a = c .before .before .before .args in sym (four-beyond (a .z) (now (a .l)) (a .m) (omega arith))

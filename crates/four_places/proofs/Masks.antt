@@ -21,7 +21,7 @@ use lib.ListN.{length}
 use borrow.Author.Tests.{eq-eqb, ne-eqb, eqb-true}
 use Rattle.board.proofs.EveryByte.{below-at}
 use Rattle.board.proofs.Codec.{Small}
-use Rattle.free_places.specs.Fours.{noneZero}
+use Rattle.four_places.specs.Fours.{noneZero}
 
 abbrev number : List ℕ → ℕ
 number [] = 0

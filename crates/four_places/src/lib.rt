@@ -1,10 +1,10 @@
-// A group of four place bytes, tested together as one number.
+// DATA. A group of four places on lent bytes, tested together as one number (document 02, Ask 2).
 ghost use mathlib.Core.Path.{_≡_};
 ghost use mathlib.Core.List.{[], _∷_};
 ghost use Prim.Native.Nat.{_≤_, _<_};
 ghost use lib.ListN.{length};
 ghost use Rattle.board.specs.Board.{boardOf, total};
-ghost use Rattle.free_places.specs.Fours.{noneZero, noneFree};
+ghost use Rattle.four_places.specs.Fours.{noneZero, noneFree};
 use board::numbers::Size;
 use std::num::wrapping_sub_u32;
 

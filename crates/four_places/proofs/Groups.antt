@@ -16,7 +16,7 @@ use Rattle.board.specs.Board.{boardOf}
 use Rattle.board.proofs.Pieces.{outside-within}
 use Rattle.board.proofs.Codec.{place-free, place-held, place-receiver, place-nowhere}
 use Rattle.lent.proofs.Access.{place-reads, place-beyond}
-use Rattle.free_places.specs.Fours.{noneZero, inUse, noneFree}
+use Rattle.four_places.specs.Fours.{noneZero, inUse, noneFree}
 
 -- a place is free exactly if its byte is 0
 free-zero : (z : Size) (p : ℕ) → isFree (placeOf z p) ≡ eqb p 0

@@ -1,9 +1,9 @@
--- `free_places::fours::none_zero` meets its contract.
+-- `four_places::none_zero` meets its contract.
 use mathlib.Core.Path.{refl}
-use Rattle.free_places.proofs.Masks.{four-marked}
+use Rattle.four_places.proofs.Masks.{four-marked}
 use borrow.Author.Needs.{needs}
-use Rattle.free_places.proofs.fours.none_zero.Statement.{statement}
-use Rattle.free_places.proofs.fours.none_zero.Tie as tie
+use Rattle.four_places.proofs.none_zero.Statement.{statement}
+use Rattle.four_places.proofs.none_zero.Tie as tie
 
 returns : tie.Need-returns
 returns c =

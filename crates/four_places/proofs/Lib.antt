@@ -1,0 +1,2 @@
+mod Masks
+pub mod Groups

@@ -1,3 +1,0 @@
-mod Masks
-mod Groups
-mod Search
