@@ -32,7 +32,7 @@ impl Timing {
     /// Nanoseconds of the case for each version; nothing for one that cannot be asked. They take turns, so that none is the worse
     /// for coming first.
     pub fn of_case(&self, case: &Case, versions: &[Version]) -> Vec<Option<f64>> {
-        let can_be_asked = |version: &Version| version.ask(&mut case.boards[0].clone(), &case.asked).is_some();
+        let can_be_asked = |version: &Version| version.ask(&mut { case.boards[0] }, &case.asked).is_some();
         let mut times: Vec<Option<f64>> = versions.iter().map(|version| can_be_asked(version).then_some(f64::INFINITY)).collect();
         for _ in 0..self.turns {
             for (time, &version) in times.iter_mut().zip(versions) {
