@@ -1,11 +1,11 @@
 -- What is read of a board without DEBUG and MROB is what is read of the board: who runs, the queues, the rules one by one, and which is broken.
 -- Assumes nothing.
 use mathlib.Core.Path.{_≡_, refl, ap, ap₂, _∙_, fun-ext}
-use mathlib.Core.Bool.{Bool, not}
+use mathlib.Core.Bool.{Bool, cond, not, _&&_}
 use mathlib.Core.List.{List, [], _∷_, map}
 use Prim.Native.Nat.{ℕ, suc}
-use lib.Dec.{eqb}
-use Rattle.links.specs.Queue.{walk, which, lists, firstWith, consIf}
+use lib.Dec.{eqb, ltb}
+use Rattle.links.specs.Queue.{walk, which, lists, firstWith, consIf, each}
 use Rattle.board.specs.declared.numbers.Size.{Size}
 use Rattle.board.specs.declared.records.Task.{Task}
 use Rattle.board.specs.Status.{MHBS, has, isReady, number}
@@ -14,7 +14,7 @@ use Rattle.board.specs.Places.{isQueuedAt}
 use Rattle.board.specs.Board.{Board, task, message, place}
 use Rattle.board.proofs.Numbered.{nth-map}
 use Rattle.paper.specs.Rules.{isThere, present, nextTask, nextMessage, order, queue, emptyQueue, taskNumber, messageNumber, ready}
-use Rattle.paper.specs.Rules.{running, goodTask, goodFlags, goodMessage, rule2At, rule3, rule4At, rule5At, rule6At, rule7, passes}
+use Rattle.paper.specs.Rules.{mayRun, firstReady, runsNext, goodTask, goodFlags, goodMessage, rule2At, rule3, rule4At, rule5At, rule6At, rule7, passes}
 use Rattle.paper.specs.Named.{brokenRule}
 use Rattle.paper.specs.Effects.{find}
 use Rattle.bare.specs.Bare.{bare, bareTask, bareBoard}
@@ -63,8 +63,15 @@ module _ (z : Size) (b : Board) where
   pub queue-bare : (k : ℕ) → queue z (bareBoard b) k ≡ queue z b k
   queue-bare k = ap (walk (nextMessage b) (z .messages)) (mptr-bare b k)
 
-  pub running-bare : running z (bareBoard b) ≡ running z b
-  running-bare = ap₂ firstWith (fun-ext (ready-bare b)) order-bare
+  firstReady-bare : firstReady z (bareBoard b) ≡ firstReady z b
+  firstReady-bare = ap₂ firstWith (fun-ext (ready-bare b)) order-bare
+
+  mayRun-bare : (c : ℕ) → mayRun z (bareBoard b) c ≡ mayRun z b c
+  mayRun-bare c = λ i. let f = fun-ext (ready-bare b) i in let number = fun-ext (taskNumber-bare b) i in
+      f c && each (λ k. not (f k && ltb (number k) (number c))) (z .tasks)
+
+  pub runsNext-bare : runsNext z (bareBoard b) ≡ runsNext z b
+  runsNext-bare = ap₂ (λ (t : Bool) (k : ℕ). cond t (b .running) k) (mayRun-bare (b .running)) firstReady-bare
 
   pub find-bare : (name : ℕ) → find z (bareBoard b) name ≡ find z b name
   find-bare name = ap₂ firstWith (fun-ext (read-bare b (λ t. eqb (t .name) name) (λ t. refl))) order-bare
@@ -93,10 +100,11 @@ module _ (z : Size) (b : Board) where
 
   rule7-bare : rule7 z (bareBoard b) ≡ rule7 z b
   rule7-bare =
-      ap not (has-bare b (running z (bareBoard b)) MHBS mhbs ∙ ap (λ (c : ℕ). has (task b c .stat) MHBS) running-bare)
+      let c : ℕ = b .running in λ i.
+      cond (each (λ k. not (fun-ext (ready-bare b) i k)) (z .tasks)) (eqb c 0) (mayRun-bare c i && not (has-bare b c MHBS mhbs i))
 
   pub passes-bare : passes z (bareBoard b) ≡ passes z b
   passes-bare = rw (fun-ext rule2-bare, rule3-bare, fun-ext rule4-bare, fun-ext rule5-bare, fun-ext rule6-bare, rule7-bare)
 
   pub broken-bare : brokenRule z (bareBoard b) ≡ brokenRule z b
-  broken-bare = rw (fun-ext rule2-bare, rule3-bare, fun-ext rule4-bare, fun-ext rule5-bare, fun-ext rule6-bare, running-bare)
+  broken-bare = rw (fun-ext rule2-bare, rule3-bare, fun-ext rule4-bare, fun-ext rule5-bare, fun-ext rule6-bare)

@@ -18,8 +18,8 @@ use Rattle.board.specs.Numbers.{taskNo}
 use Rattle.board.specs.Records.{taskOf, taskBytes, messageOf, messageBytes}
 use Rattle.board.specs.Places.{placeOf, placeByte, placeIn, placeBytes}
 use Rattle.board.specs.Board.{Area, total, taskArea, messageArea, placeArea, cut, pieces, board, boardOf, put}
-use Rattle.board.specs.Board.{withFirst, withTask, withMessage, withPlace}
-use Rattle.board.specs.Writes.{putIn, putFirst, putTask, putMessage, putPlace}
+use Rattle.board.specs.Board.{withFirst, withRunning, withTask, withMessage, withPlace}
+use Rattle.board.specs.Writes.{putIn, putFirst, putRunning, putTask, putMessage, putPlace}
 use Rattle.board.proofs.Numbered.{map-put}
 use Rattle.board.proofs.Pieces.{pieces-put, pieces-before, pieces-behind, take-putIn}
 use Rattle.board.proofs.Codec.{task-back, message-back, place-held, place-queued}
@@ -47,24 +47,40 @@ head-put a l k vs h =
     λ i w. sym (getD-take 4 d i 0 w) ∙ ap (λ (r : List ℕ). getD r i 0) e ∙ getD-take 4 l i 0 w in
     (byte 0 (lit< tt), byte 1 (lit< tt), rest-of-four d ∙ ap (drop 2) e ∙ sym (rest-of-four l))
 
--- byte 1 and every area lie behind byte 0
+-- bytes 0 and 1 are two, and every area lies behind them
 first-other : (l : List ℕ) (v : ℕ) → getD (set l 0 v) 1 0 ≡ getD l 1 0
 first-other [] v = refl
 first-other (x ∷ l) v = refl
 
-pieces-first : (a : Area) (l : List ℕ) (v : ℕ) → 1 ≤ a .base → pieces a (set l 0 v) ≡ pieces a l
-pieces-first a l v h = ap (cut (a .count) (a .stride)) (drop-set-lt (a .base) l 0 v h)
+running-other : (l : List ℕ) (v : ℕ) → getD (set l 1 v) 0 0 ≡ getD l 0 0
+running-other [] v = refl
+running-other (x ∷ l) v = refl
+
+pieces-head : (a : Area) (l : List ℕ) (i v : ℕ) → i < a .base → pieces a (set l i v) ≡ pieces a l
+pieces-head a l i v h = ap (cut (a .count) (a .stride)) (drop-set-lt (a .base) l i v h)
 
 -- ---- the board
 module _ (z : Size) (l : List ℕ) where
+  -- byte 0 or byte 1
+  head-kept : (n v : ℕ) → n < 2 → let d = set l n v in
+      boardOf z d ≡ board (getD d 0 0) (getD d 1 0) (boardOf z l .zeros) (boardOf z l .tasks) (boardOf z l .messages) (boardOf z l .places)
+  head-kept n v w =
+      let t = ap (map taskOf) (pieces-head (taskArea z) l n v (omega (arith, w))) in
+      let m = ap (map messageOf) (pieces-head (messageArea z) l n v (omega (arith, w))) in
+      let p = ap (map (placeIn z)) (pieces-head (placeArea z) l n v (omega (arith, w))) in
+      λ i. board (getD (set l n v) 0 0) (getD (set l n v) 1 0) (take 2 (drop-set-lt 2 l n v w i)) (t i) (m i) (p i)
+
   -- byte 0
   pub board-put-first : (v : ℕ) → 1 ≤ length l → boardOf z (putFirst l v) ≡ withFirst (boardOf z l) v
-  board-put-first v h =
-      let o = first-other l v in
-      let t = ap (map taskOf) (pieces-first (taskArea z) l v (omega arith)) in
-      let m = ap (map messageOf) (pieces-first (messageArea z) l v (omega arith)) in
-      let p = ap (map (placeIn z)) (pieces-first (placeArea z) l v (omega arith)) in
-      λ i. board (getD-set-same l 0 v 0 h i) (o i) (take 2 (drop-set-lt 2 l 0 v (lit< tt) i)) (t i) (m i) (p i)
+  board-put-first v h = let b = boardOf z l in
+      head-kept 0 v (lit< tt)
+      ∙ (λ i. board (getD-set-same l 0 v 0 h i) (first-other l v i) (b .zeros) (b .tasks) (b .messages) (b .places))
+
+  -- byte 1
+  pub board-put-running : (v : ℕ) → 2 ≤ length l → boardOf z (putRunning l v) ≡ withRunning (boardOf z l) v
+  board-put-running v h = let b = boardOf z l in
+      head-kept 1 v (lit< tt)
+      ∙ (λ i. board (running-other l v i) (getD-set-same l 1 v 0 h i) (b .zeros) (b .tasks) (b .messages) (b .places))
 
   module _ (e : length l ≡ total z) where
     -- a task

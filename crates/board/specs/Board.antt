@@ -1,7 +1,8 @@
 -- The board: document 01, 'What the board holds'. A reader must believe this file.
 --   total z            the bytes of a board of size z; 1,476 for the small one
 --   boardOf z l        the bytes l read once as a board of records; bytesOf b the board written back
---   board first ..     the board of these bytes and records; withFirst, withTasks, withMessages, withPlaces: b with that field so
+--   board first ..     the board of these bytes and records; withFirst, withRunning, withTasks, withMessages, withPlaces: b with that
+--                      field so
 --   task b k           task k, a record of zeros for 0 and numbers beyond the board; so message b m; place b m is then Free
 --   withTask b k t     the board with task k so and nothing else changed; for 0 and beyond it is b itself; so withMessage, withPlace
 -- Assumes nothing.
@@ -50,7 +51,7 @@ pieces a l = cut (a .count) (a .stride) (drop (a .base) l)
 -- ---- the board as records
 pub record Board : Type 0 where
   pub first : ℕ  -- byte 0: first task of the task queue, 0 if none
-  pub byte1 : ℕ  -- byte 1: zero by R1
+  pub running : ℕ  -- byte 1: the running task, 0 if none
   pub zeros : List ℕ  -- bytes 2 and 3
   pub tasks : List Task
   pub messages : List Message
@@ -58,9 +59,9 @@ pub record Board : Type 0 where
 
 -- the one place where a board is put together
 abbrev pub board : ℕ → ℕ → List ℕ → List Task → List Message → List Place → Board
-board first byte1 zeros tasks messages places = record {
+board first running zeros tasks messages places = record {
   first = first;
-  byte1 = byte1;
+  running = running;
   zeros = zeros;
   tasks = tasks;
   messages = messages;
@@ -74,7 +75,7 @@ boardOf z l =
 
 abbrev pub bytesOf : Board → List ℕ
 bytesOf b =
-    b .first ∷ b .byte1 ∷ b .zeros
+    b .first ∷ b .running ∷ b .zeros
     ++ (join (map taskBytes (b .tasks)) ++ (join (map messageBytes (b .messages)) ++ join (map placeBytes (b .places))))
 
 -- ---- a record by its number; 0 is none
@@ -97,16 +98,19 @@ place b m = nth Free (b .places) m
 
 -- ---- a board with one field changed
 abbrev pub withFirst : Board → ℕ → Board
-withFirst b k = board k (b .byte1) (b .zeros) (b .tasks) (b .messages) (b .places)
+withFirst b k = board k (b .running) (b .zeros) (b .tasks) (b .messages) (b .places)
+
+abbrev pub withRunning : Board → ℕ → Board
+withRunning b c = board (b .first) c (b .zeros) (b .tasks) (b .messages) (b .places)
 
 abbrev pub withTasks : Board → List Task → Board
-withTasks b l = board (b .first) (b .byte1) (b .zeros) l (b .messages) (b .places)
+withTasks b l = board (b .first) (b .running) (b .zeros) l (b .messages) (b .places)
 
 abbrev pub withMessages : Board → List Message → Board
-withMessages b l = board (b .first) (b .byte1) (b .zeros) (b .tasks) l (b .places)
+withMessages b l = board (b .first) (b .running) (b .zeros) (b .tasks) l (b .places)
 
 abbrev pub withPlaces : Board → List Place → Board
-withPlaces b l = board (b .first) (b .byte1) (b .zeros) (b .tasks) (b .messages) l
+withPlaces b l = board (b .first) (b .running) (b .zeros) (b .tasks) (b .messages) l
 
 -- ---- and with one record changed
 abbrev pub withTask : Board → ℕ → Task → Board

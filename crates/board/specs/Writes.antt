@@ -1,7 +1,7 @@
 -- What a writer makes of the bytes it is lent, whatever their length: the record's bytes at its place, nothing past the end, and nothing
 -- at all for a number that the board does not have. The contracts of src/bytes.rt cite this file.
 --   putIn a l k vs     the bytes l with the record k of the area a made of vs
---   putTask z l k t    .. with task k so; putMessage, putPlace and putFirst likewise
+--   putTask z l k t    .. with task k so; putMessage, putPlace, putFirst and putRunning likewise
 -- Assumes nothing.
 use mathlib.Core.Bool.{cond}
 use mathlib.Core.List.{List}
@@ -26,6 +26,9 @@ putIn a l k vs = cond (outside (a .count) k) l (sets l (start a k) vs)
 
 abbrev pub putFirst : List ℕ → ℕ → List ℕ
 putFirst l k = set l 0 k
+
+abbrev pub putRunning : List ℕ → ℕ → List ℕ
+putRunning l c = set l 1 c
 
 abbrev pub putTask : Size → List ℕ → ℕ → Task → List ℕ
 putTask z l k t = putIn (taskArea z) l k (taskBytes t)

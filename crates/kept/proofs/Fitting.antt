@@ -136,7 +136,7 @@ module _ (z : Size) (b : Board) (f : Fits z b) where
       let p = records-read placeBytes 1 (λ p. refl) (placeIn z) Free (b .places)
       (drop (4 + 10 * z .tasks + 8 * z .messages) (bytesOf b)) [] (z .messages) (f .places) behind-messages
       (λ i. place-back (getD (b .places) i Free) (f .place (suc i))) in
-      λ i. board (b .first) (b .byte1) (zs i) (t i) (m i) (p i)
+      λ i. board (b .first) (b .running) (zs i) (t i) (m i) (p i)
 
   small-place : (p : Place) → FitsPlace z p → Small (placeBytes p)
   small-place p h = (omega arith, tt)
@@ -149,7 +149,7 @@ module _ (z : Size) (b : Board) (f : Fits z b) where
       let p = small-records placeBytes Free (b .places) (λ i. small-place (getD (b .places) i Free) (f .place (suc i))) in (
         f .first,
         (
-          f .byte1,
+          f .running,
           small-append (b .zeros) (ts ++ (ms ++ ps)) (small-zeros (b .zeros) h)
               (small-append ts (ms ++ ps) t (small-append ms ps m p)),
         ),
@@ -227,7 +227,7 @@ module _ (z : Size) (l : List ℕ) (h : Bytes z l) where
   pub fits-board : Fits z (boardOf z l)
   fits-board = record {
     first = h .bytes 0;
-    byte1 = h .bytes 1;
+    running = h .bytes 1;
     zeros = length-take-le 2 (drop 2 l) (omega (arith, length-drop 2 l, h .long));
     tasks = length-tasks z l;
     messages = length-messages z l;

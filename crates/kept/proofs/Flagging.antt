@@ -19,13 +19,13 @@ use Rattle.board.specs.Records.{Byte, noTask, taskWithStat}
 use Rattle.board.specs.Board.{Board, task, place, withTask}
 use Rattle.board.proofs.Bits.{withBit-other, withBit-small, withoutBit-has, withoutBit-other, withoutBit-small}
 use Rattle.paper.specs.declared.call.Call.the-variants.{PostInterrupt, WaitForInterrupt}
-use Rattle.paper.specs.Rules.{isThere, present, nextTask, nextMessage, taskNumber, messageNumber, running}
+use Rattle.paper.specs.Rules.{isThere, present, nextTask, nextMessage, taskNumber, messageNumber}
 use Rattle.paper.specs.Changes.{sets, clears}
 use Rattle.paper.specs.Effects.{post, waitInterrupt}
 use Rattle.paper.specs.Refusals.{no3, no6, ownRow, Go, lowest}
 use Rattle.linked.specs.Sound.{Proper, Regular, Flags}
-use Rattle.linked.proofs.Running.{present-numbered, runner-says}
-use Rattle.kept.specs.Settled.{FitsTask, Fits, Settled}
+use Rattle.linked.proofs.Running.{present-numbered, ready-says}
+use Rattle.kept.specs.Settled.{FitsTask, Fits, Settled, Awake}
 use Rattle.kept.proofs.Reading.{nth-cases, task-put, task-other, task-alike, fits-task}
 use Rattle.kept.proofs.Reading.{listing-stays, listing-start, Lawful, present-proper, good-stays}
 use Rattle.kept.proofs.Reading.{go-passed, runner-passed, task-passed}
@@ -131,7 +131,6 @@ module _ (z : Size) (b : Board) (order : List ℕ) (queues : ℕ → List ℕ) (
     but-stat h = record {
       fits = fits-task z b (h .fits) k t (fits-new (h .fits .task k));
       regular = record {
-        byte1 = h .regular .byte1;
         zeros = h .regular .zeros;
         records = λ j n. nth-cases Lawful noTask (b .tasks) k j t (λ e. inr (proper-new (proper-old h))) (h .regular .records j n);
         linked = record {
@@ -254,9 +253,8 @@ module _ (z : Size) (b : Board) (order : List ℕ) (queues : ℕ → List ℕ) (
       (withBit-other s IWAT WAIT refl ∙ w) (withBit-other s IWAT INTQ refl ∙ e) (withBit-other s IWAT MHBS refl ∙ m)))
 
   -- so its row and R7 have it
-  pub wait-settled : let c = running z b in has (task b c .stat) MHBS ≡ false → lowest (ownRow z b c WaitForInterrupt) ≡ Go
+  pub wait-settled : (c : ℕ) → Awake b c → has (task b c .stat) MHBS ≡ false → lowest (ownRow z b c WaitForInterrupt) ≡ Go
       → Settled z (waitInterrupt b c) order queues
-  wait-settled m g =
-      let c : ℕ = running z b in
-      let r = runner-says z b (runner-passed c (go-passed (no3 c) [] g .0)) in
+  wait-settled c awake m g =
+      let r = ready-says b c (awake (runner-passed c (go-passed (no3 c) [] g .0))) in
       settled-wait c (r .0) (r .1) (r .2) m

@@ -86,7 +86,7 @@ module _ {ts bits ms : List ℕ} {who : ℕ} {q : List ℕ} {o : Bool} where
       → ((m : ℕ) → Out m ms → nth Free p m ≡ place b m)
       → Frame b (withPlaces (withMessages b l) p) ts bits ms who q o
   frame-mail b l p f g h = record {
-    byte1 = refl;
+    running = refl;
     zeros = refl;
     first = λ w. refl;
     tasks = λ k u. refl;
@@ -106,7 +106,7 @@ module _ {ts bits ms : List ℕ} {who : ℕ} {q : List ℕ} {o : Bool} where
   -- one change after another
   pub frame-then : {b d e : Board} → Frame b d ts bits ms who q o → Frame d e ts bits ms who q o → Frame b e ts bits ms who q o
   frame-then {b} {d} {e} f g = record {
-    byte1 = g .byte1 ∙ f .byte1;
+    running = g .running ∙ f .running;
     zeros = g .zeros ∙ f .zeros;
     first = λ w. g .first w ∙ f .first w;
     tasks = λ k u. g .tasks k u ∙ ap (λ (t : Task). taskWithLink t (task e k .link)) (f .tasks k u);
@@ -130,7 +130,7 @@ module _ {ts bits ms : List ℕ} {who : ℕ} {q : List ℕ} where
       (t .link ≡ s .link) × (t .prio ≡ s .prio) × (t .sptr ≡ s .sptr) × (t .name ≡ s .name) → SameBut bits (t .stat) (s .stat)
       → (k ≡ who) ⊎ (t .mptr ≡ s .mptr) → Frame b (withTask b k t) ts bits ms who q false
   frame-task b k t i (l, p, s, n) g m = record {
-    byte1 = refl;
+    running = refl;
     zeros = refl;
     first = λ w. refl;
     tasks = λ j u.
@@ -191,7 +191,7 @@ module _ {ts bits ms : List ℕ} {who : ℕ} {q : List ℕ} where
       → ((k : ℕ) → SameBut bits (nth noTask l k .stat) (task b k .stat))
       → Frame b (withFirst (withTasks b l) x) ts bits ms who q true
   frame-crew b x l h g = record {
-    byte1 = refl;
+    running = refl;
     zeros = refl;
     first = λ w. absurd (true≢false w);
     tasks = h;

@@ -21,13 +21,13 @@ use Rattle.board.specs.Places.{isQueued}
 use Rattle.board.specs.Board.{Board, task, message, place, withMessage, withPlace, put, withMessages, withPlaces}
 use Rattle.board.proofs.Codec.{place-held}
 use Rattle.paper.specs.declared.call.Call.the-variants.{Claim, Prepare, Release}
-use Rattle.paper.specs.Rules.{present, nextMessage, messageNumber, running}
+use Rattle.paper.specs.Rules.{present, nextMessage, messageNumber}
 use Rattle.paper.specs.Effects.{lowestFree, claim, release, prepare}
 use Rattle.paper.specs.Refusals.{no14, ownRow, Go, lowest}
 use Rattle.linked.specs.Linked.{Listing}
 use Rattle.linked.specs.Sound.{Pointers, PlaceGood}
-use Rattle.linked.proofs.Running.{present-numbered, placed-numbered, runner-says, lowest-free}
-use Rattle.kept.specs.Settled.{FitsMessage, Fits, Settled, Fitting}
+use Rattle.linked.proofs.Running.{present-numbered, placed-numbered, ready-says, lowest-free}
+use Rattle.kept.specs.Settled.{FitsMessage, Fits, Settled, Awake, Fitting}
 use Rattle.kept.specs.Claims.{Sizes}
 use Rattle.kept.proofs.Reading.{nth-cases, message-put, message-other, held-placed}
 use Rattle.kept.proofs.Reading.{FitsPlace, fits-message, fits-place, listing-stays, good-stays}
@@ -43,7 +43,7 @@ settled-mail : (z : Size) (b : Board) (order : List ℕ) (queues : ℕ → List 
 settled-mail z b order queues s ms ps f l g = record {
   fits = f;
   regular = let r = s .regular in
-      record { byte1 = r .byte1; zeros = r .zeros; records = r .records; linked = record { tasks = r .linked .tasks; messages = l }; places = g };
+      record { zeros = r .zeros; records = r .records; linked = record { tasks = r .linked .tasks; messages = l }; places = g };
   flags = s .flags;
 }
 
@@ -129,11 +129,8 @@ module _ (z : Size) (b : Board) (order : List ℕ) (queues : ℕ → List ℕ) (
       settled-place z b order queues s m (HeldBy (taskNo c)) (ap isQueued (r .1)) refl (held-fits c p) (free-held z b m c p k)
 
   -- so its row has it
-  pub claim-settled : let c = running z b in lowest (ownRow z b c Claim) ≡ Go → Settled z (claim b c) order queues
-  claim-settled g =
-      let c : ℕ = running z b in
-      let (runs, free) = claim-row b c g in
-      settled-claim c (runner-says z b runs .0) free
+  pub claim-settled : (c : ℕ) → Awake b c → lowest (ownRow z b c Claim) ≡ Go → Settled z (claim b c) order queues
+  claim-settled c awake g = let (runs, free) = claim-row b c g in settled-claim c (ready-says b c (awake runs) .0) free
 
 -- ---- release and prepare
 module _ (z : Size) (b : Board) (order : List ℕ) (queues : ℕ → List ℕ) (s : Settled z b order queues) where

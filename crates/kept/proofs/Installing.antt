@@ -138,7 +138,6 @@ module _ (z : Size) (b : Board) (order : List ℕ) (queues : ℕ → List ℕ) (
   settled-order = record {
     fits = fits-relinked;
     regular = record {
-      byte1 = relink-keeps (λ (e : Board). e .byte1) linkTask (λ e x y. refl) mid q ∙ s .regular .byte1;
       zeros = subst (All (λ x. x ≡ 0)) (sym (relink-keeps (λ (e : Board). e .zeros) linkTask (λ e x y. refl) mid q)) (s .regular .zeros);
       records = λ j n. lawful-relinked j (nth-cases Lawful noTask (b .tasks) k j t (λ e. lawful) (s .regular .records j n));
       linked = record {

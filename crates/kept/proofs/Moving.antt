@@ -220,7 +220,6 @@ module _ (z : Size) (b : Board) (order : List ℕ) (queues : ℕ → List ℕ) (
   but-after = record {
     fits = fits-after;
     regular = record {
-      byte1 = settled .regular .byte1;
       zeros = settled .regular .zeros;
       records = λ k n. nth-cases Lawful noTask (b .tasks) r k receiver (λ e. lawful) (settled .regular .records k n);
       linked = record { tasks = tasks-after; messages = λ k n. messages-after k n (ℕ-discrete k r) };

@@ -102,7 +102,7 @@ module _ (z : Size) (b : Board) (f : Fits z b) where
       → Fits z (withFirst (withTasks (withMessages (withPlaces b ps) ms) ts) x)
   fits-with x ts ms ps h n o p t u v = record {
     first = h;
-    byte1 = f .byte1;
+    running = f .running;
     zeros = f .zeros;
     tasks = n ∙ f .tasks;
     messages = o ∙ f .messages;

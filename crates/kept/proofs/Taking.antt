@@ -29,14 +29,14 @@ use Rattle.board.specs.Board.{Board, task, message, place, withTasks, withTask}
 use Rattle.board.proofs.Numbered.{put-nth}
 use Rattle.board.proofs.Codec.{place-held}
 use Rattle.paper.specs.declared.call.Call.the-variants.{Receive, CancelMessage}
-use Rattle.paper.specs.Rules.{present, nextMessage, messageNumber, queue, running}
+use Rattle.paper.specs.Rules.{present, nextMessage, messageNumber, queue}
 use Rattle.paper.specs.Changes.{clears, withQueue, hold, takeFirst}
 use Rattle.paper.specs.Effects.{emptied, cancelMessage}
 use Rattle.paper.specs.Refusals.{no3, no4, no6, no12, no13, ownRow, Go, lowest}
 use Rattle.linked.specs.Sound.{PlaceGood}
 use Rattle.linked.proofs.Tests.{says-isQueuedAt}
-use Rattle.linked.proofs.Running.{placed-numbered, runner-says}
-use Rattle.kept.specs.Settled.{Settled}
+use Rattle.linked.proofs.Running.{placed-numbered, ready-says}
+use Rattle.kept.specs.Settled.{Settled, Awake}
 use Rattle.kept.specs.Touched.{OutOfQueue, changed, queuesAfter}
 use Rattle.kept.specs.Claims.{Sizes}
 use Rattle.kept.proofs.Reading.{message-put, queued-placed}
@@ -195,24 +195,23 @@ cancel-message-row z b c m r g =
     let v = go-passed (no12 b m r) (no13 b c m ∷ []) (u .1) in
     (runner-passed c (s .0), task-passed z b r (u .0) .0, queued-passed r (place b m) (v .0))
 
-module _ (z : Size) (b : Board) (order : List ℕ) (queues : ℕ → List ℕ) (sizes : Sizes z) (settled : Settled z b order queues) where
+module _ (z : Size) (b : Board) (order : List ℕ) (queues : ℕ → List ℕ) (sizes : Sizes z) (settled : Settled z b order queues)
+    (c : ℕ) (awake : Awake b c) where
   -- receive: the first of its queue, or none
-  pub receive-settled : let c = running z b in has (task b c .stat) MHBS ≡ false → lowest (ownRow z b c Receive) ≡ Go
+  pub receive-settled : has (task b c .stat) MHBS ≡ false → lowest (ownRow z b c Receive) ≡ Go
       → Settled z (takeFirst z b c) order (queuesAfter b queues (OutOfQueue (task b c .mptr) c))
   receive-settled e g =
-      let c : ℕ = running z b in
-      let runs = runner-says z b (runner-passed c (go-passed (no3 c) [] g .0)) .0 in
+      let runs = ready-says b c (awake (runner-passed c (go-passed (no3 c) [] g .0))) .0 in
       subst (λ (q : List ℕ). Settled z (takeFirst z b c) order (changed queues c q))
       (sym (first-left z b order queues settled c (task-numbered z b order queues settled c runs)))
       (take-settled z b order queues sizes settled c runs e)
 
   -- cancel message: out of the queue of the task meant
-  pub cancel-message-settled : (m r : ℕ) → let c = running z b in lowest (ownRow z b c (CancelMessage m r)) ≡ Go
+  pub cancel-message-settled : (m r : ℕ) → lowest (ownRow z b c (CancelMessage m r)) ≡ Go
       → Settled z (cancelMessage z b c m r) order (queuesAfter b queues (OutOfQueue m r))
   cancel-message-settled m r g =
-      let c : ℕ = running z b in
       let (runs, n, e) = cancel-message-row z b c m r g in
-      let d = out-settled z b order queues sizes settled m r c e (runner-says z b runs .0) in
+      let d = out-settled z b order queues sizes settled m r c e (ready-says b c (awake runs) .0) in
       subst (λ (q : List ℕ).
       Settled z (emptied (hold (withQueue b r (without m q)) c m) r) order (changed queues r (without m (queues r))))
       (sym (queue-walked z b order queues settled r n))

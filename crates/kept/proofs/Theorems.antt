@@ -9,7 +9,6 @@ use native.Mathlib.Omega.{arith}
 use lib.Dec.{lit<, lit≤}
 use lib.ListN.{getD}
 use borrow.Author.Tests.{eqb-true, not-false}
-use Rattle.links.specs.Queue.{firstWith}
 use Rattle.board.specs.declared.numbers.Size.{Size}
 use Rattle.board.specs.Numbers.{small}
 use Rattle.board.specs.Status.{MHBS, has}
@@ -21,14 +20,14 @@ use Rattle.paper.specs.declared.answer.Refusal.the-variants.{NothingToDeliver}
 use Rattle.paper.specs.declared.answer.Answer.{Answer}
 use Rattle.paper.specs.declared.answer.Answer.the-variants.{Refused}
 use Rattle.paper.specs.Answers.{numberOf, handed}
-use Rattle.paper.specs.Rules.{ready, order, running, passes}
+use Rattle.paper.specs.Rules.{order, runsNext, passes}
 use Rattle.paper.specs.Refusals.{no1, no2, ownRow, row, Verdict, Go, Stop, lowest}
 use Rattle.paper.specs.Outcomes.{Outcome, Undispatched, judge, body, dispatch, accepted, effect}
 use Rattle.paper.proofs.Theorems.{row-below, accepted-passed}
-use Rattle.linked.specs.Sound.{Sound}
+use Rattle.linked.specs.Sound.{RunsRightly, Sound}
 use Rattle.linked.proofs.Boards.{says-passes}
 use Rattle.linked.proofs.Theorems.{one-whereabouts}
-use Rattle.kept.specs.Settled.{Fits, Settled, Fitting}
+use Rattle.kept.specs.Settled.{Fits, Settled, Awake, Fitting}
 use Rattle.kept.specs.Touched.{touched, orderAfter, queuesAfter}
 use Rattle.kept.specs.Claims.{Sizes, NeverStuck, PassingStaysPassing, EveryBlockOnce}
 use Rattle.kept.proofs.Reading.{order-walked, go-passed}
@@ -40,36 +39,27 @@ use Rattle.kept.proofs.Dispatching.{Handing, dispatched}
 pub small-sizes : Sizes small
 small-sizes = record { tasks = lit≤ tt; limit = lit≤ tt; links = lit< tt }
 
--- ---- a board that passes is settled, with nobody due a message who runs; and the other way round
+-- ---- a board that passes is settled, and who runs runs rightly and is due no message; and the other way round
 module _ (z : Size) (b : Board) (a : Sizes z) (f : Fits z b) where
   pub sound-settled : (s : Sound z b) → Settled z b (s .order) (s .queues)
   sound-settled s = record { fits = f; regular = s .regular; flags = s .flags }
-
-  -- the first ready one of the order is the running task
-  runs-first : (q : List ℕ) (queues : ℕ → List ℕ) → Settled z b q queues → running z b ≡ firstWith (ready b) q
-  runs-first q queues h = ap (firstWith (ready b)) (order-walked z b q queues h (a .limit))
 
   -- the order may be taken as walked
   walked-settled : (q : List ℕ) (queues : ℕ → List ℕ) → Settled z b q queues → Settled z b (order z b) queues
   walked-settled q queues h = subst (λ (x : List ℕ). Settled z b x queues) (sym (order-walked z b q queues h (a .limit))) h
 
-  pub sound-runner : (s : Sound z b) → has (task b (running z b) .stat) MHBS ≡ false
-  sound-runner s =
-      ap (λ (c : ℕ). has (task b c .stat) MHBS) (runs-first (s .order) (s .queues) (sound-settled s)) ∙ s .runner
+  -- whoever runs is ready
+  pub sound-awake : Sound z b → Awake b (b .running)
+  sound-awake s n = s .runs .leads n .awake
 
   pub passing-sound : passes z b ≡ true → Sound z b
   passing-sound p = says-passes z b (f .tasks) (f .places) (a .limit) .0 p
 
-  pub settled-passes : (q : List ℕ) (queues : ℕ → List ℕ) → Settled z b q queues → has (task b (running z b) .stat) MHBS ≡ false
-      → passes z b ≡ true
-  settled-passes q queues h m =
-      says-passes z b (f .tasks) (f .places) (a .limit) .1 (record {
-        order = q;
-        queues = queues;
-        regular = h .regular;
-        flags = h .flags;
-        runner = ap (λ (c : ℕ). has (task b c .stat) MHBS) (sym (runs-first q queues h)) ∙ m;
-      })
+  pub settled-passes : (q : List ℕ) (queues : ℕ → List ℕ) → Settled z b q queues → RunsRightly b (b .running)
+      → has (task b (b .running) .stat) MHBS ≡ false → passes z b ≡ true
+  settled-passes q queues h r i =
+      says-passes z b (f .tasks) (f .places) (a .limit) .1
+      (record { order = q; queues = queues; regular = h .regular; flags = h .flags; runs = r; idle = i })
 
 -- ---- a call, by the verdict of its row
 module _ (z : Size) (l : List ℕ) (call : Call) (a : Sizes z) (h : (i : ℕ) → Byte (getD l i 0)) (w : Fitting call) where
@@ -77,19 +67,19 @@ module _ (z : Size) (l : List ℕ) (call : Call) (a : Sizes z) (h : (i : ℕ) �
   b = boardOf z l
 
   abbrev d : Undispatched
-  d = body z b (running z b) call
+  d = body z b (b .running) call
 
   -- what dispatch makes of a call that no refusal stops
-  went : lowest (row z l b (running z b) call) ≡ Go → Handing z (orderAfter b (order z b) (touched b (running z b) call .move)) l d
+  went : lowest (row z l b (b .running) call) ≡ Go → Handing z (orderAfter b (order z b) (touched b (b .running) call .move)) l d
   went g =
-      let long = go-passed (no1 z l) (no2 z b ∷ ownRow z b (running z b) call) g in
-      let rules = go-passed (no2 z b) (ownRow z b (running z b) call) (long .1) in
+      let long = go-passed (no1 z l) (no2 z b ∷ ownRow z b (b .running) call) g in
+      let rules = go-passed (no2 z b) (ownRow z b (b .running) call) (long .1) in
       let f = fits-board z l (record { long = eqb-true _ _ (not-false _ (long .0)); bytes = h }) in
       let s = passing-sound z b a f (not-false (passes z b) (rules .0)) in
       let t = walked-settled z b a f (s .order) (s .queues) (sound-settled z b a f s) in
-      let move = touched b (running z b) call .move in
+      let move = touched b (b .running) call .move in
       dispatched z (orderAfter b (order z b) move) l (queuesAfter b (s .queues) move) (d .value) (d .board) a
-      (body-settles z b (order z b) (s .queues) call a w t (sound-runner z b a f s) (rules .1))
+      (body-settles z b (order z b) (s .queues) (b .running) call a w t (sound-awake z b a f s) (s .idle) (rules .1))
 
   -- it is not refused
   accepted-number : (o : Outcome) (v c m : ℕ) (k : List ℕ) → o ≡ accepted v c m k → o .answer ≢ Refused NothingToDeliver
@@ -98,33 +88,35 @@ module _ (z : Size) (l : List ℕ) (call : Call) (a : Sizes z) (h : (i : ℕ) �
       let y : handed (o .answer) .number ≡ 15 = ap (λ (x : Answer). handed x .number) r in
       absurd (omega arith)
 
-  by-verdict : (v : Verdict) → lowest (row z l b (running z b) call) ≡ v → judge l v (dispatch z l d) .answer ≢ Refused NothingToDeliver
-  by-verdict Go e = let t = went e in accepted-number (dispatch z l d) (d .value) (running z (t .board)) (t .delivered) (bytesOf (t .board)) (t .ends)
+  by-verdict : (v : Verdict) → lowest (row z l b (b .running) call) ≡ v → judge l v (dispatch z l d) .answer ≢ Refused NothingToDeliver
+  by-verdict Go e = let t = went e in accepted-number (dispatch z l d) (d .value) (runsNext z (d .board)) (t .delivered) (bytesOf (t .board)) (t .ends)
   by-verdict (Stop q) e = λ r.
       let x : numberOf q ≡ 15 = ap (λ (x : Answer). handed x .number) r in
-      let y = row-below z l b (running z b) call q e in
+      let y = row-below z l b (b .running) call q e in
       absurd (omega arith)
 
   -- the bytes after it pass, if those before did
   abbrev Passes : List ℕ → Type 0
   Passes k = Bytes z k × (passes z (boardOf z k) ≡ true)
 
-  passes-after : (v : Verdict) → lowest (row z l b (running z b) call) ≡ v → Passes l → Passes (judge l v (dispatch z l d) .after)
+  passes-after : (v : Verdict) → lowest (row z l b (b .running) call) ≡ v → Passes l → Passes (judge l v (dispatch z l d) .after)
   passes-after Go e p =
       let t = went e in
       let f = t .settled .fits in
       subst (λ (o : Outcome). Passes (o .after)) (sym (t .ends)) (
         bytes-fit z (t .board) f (t .settled .regular .zeros),
-        ap (passes z) (board-bytes z (t .board) f) ∙ settled-passes z (t .board) a f _ (t .queues) (t .settled) (t .runner),
+        ap (passes z) (board-bytes z (t .board) f) ∙ settled-passes z (t .board) a f _ (t .queues) (t .settled)
+            (subst (RunsRightly (t .board)) (sym (t .runs)) (t .rightly))
+            (ap (λ (c : ℕ). has (task (t .board) c .stat) MHBS) (t .runs) ∙ t .idle),
       )
   passes-after (Stop q) e p = p
 
 pub never-stuck : NeverStuck
-never-stuck z l call a h w = by-verdict z l call a h w (lowest (row z l (boardOf z l) (running z (boardOf z l)) call)) refl
+never-stuck z l call a h w = by-verdict z l call a h w (lowest (row z l (boardOf z l) (boardOf z l .running) call)) refl
 
 pub passing-stays-passing : PassingStaysPassing
 passing-stays-passing z l call a h w p =
-    passes-after z l call a (h .bytes) w (lowest (row z l (boardOf z l) (running z (boardOf z l)) call)) refl (h, p)
+    passes-after z l call a (h .bytes) w (lowest (row z l (boardOf z l) (boardOf z l .running) call)) refl (h, p)
 
 -- accepted, so the board passed; so it passes now; so each block is in one place
 pub every-block-once : EveryBlockOnce

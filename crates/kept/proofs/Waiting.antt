@@ -19,14 +19,14 @@ use Rattle.board.specs.Records.{taskWithStat}
 use Rattle.board.specs.Board.{Board, task, place}
 use Rattle.board.proofs.Bits.{withBit-other, withoutBit-has, withoutBit-other}
 use Rattle.paper.specs.declared.call.Call.the-variants.{ReceiveAndWait}
-use Rattle.paper.specs.Rules.{present, nextMessage, emptyQueue, running}
+use Rattle.paper.specs.Rules.{present, nextMessage, emptyQueue}
 use Rattle.paper.specs.Changes.{sets, clears}
 use Rattle.paper.specs.Effects.{woken, waits, emptied}
 use Rattle.paper.specs.Refusals.{no3, ownRow, Go, lowest}
 use Rattle.linked.specs.Linked.{Linked}
 use Rattle.linked.specs.Sound.{Flags}
-use Rattle.linked.proofs.Running.{present-numbered, runner-says}
-use Rattle.kept.specs.Settled.{Settled}
+use Rattle.linked.proofs.Running.{present-numbered, ready-says}
+use Rattle.kept.specs.Settled.{Settled, Awake}
 use Rattle.kept.proofs.Reading.{task-put, task-other, task-alike, go-passed, runner-passed}
 use Rattle.kept.proofs.Flagging.{Flagged, flags-ready, flags-waiting, SettledBut, but-settled, but-clears, settled-sets}
 use Rattle.kept.proofs.Flagging.{Apart, apart-WAIT, apart-MHBS}
@@ -87,11 +87,10 @@ woken-stat b r k w =
 
 -- receive and wait
 pub receive-and-wait-settled : (z : Size) (b : Board) (order : List ℕ) (queues : ℕ → List ℕ) → Settled z b order queues
-    → let c = running z b in has (task b c .stat) MHBS ≡ false → lowest (ownRow z b c ReceiveAndWait) ≡ Go
+    → (c : ℕ) → Awake b c → has (task b c .stat) MHBS ≡ false → lowest (ownRow z b c ReceiveAndWait) ≡ Go
     → Settled z (waits c b) order queues
-receive-and-wait-settled z b order queues h m g =
-    let c : ℕ = running z b in
-    let r = runner-says z b (runner-passed c (go-passed (no3 c) [] g .0)) in
+receive-and-wait-settled z b order queues h c awake m g =
+    let r = ready-says b c (awake (runner-passed c (go-passed (no3 c) [] g .0))) in
     waits-settled z b order queues c (r .0) h (r .1, r .2, m)
 
 -- ---- who is there, what is queued

@@ -1,8 +1,8 @@
 -- What calls keep, as statements; their proofs are in proofs/Bodies and proofs/Theorems. A reader must believe this file.
---   BodySettles         where the running task isn't due a message (R7), the body of a call that no refusal of its row stops leaves R1 to
---                       R6, and the lists that its move says
---   BodyFrame           a body changes only the records and the bits of STAT that the call touches; DispatchFrame: dispatch only the running
---                       task, of its STAT MHBS alone, and the message that it is handed
+--   BodySettles         where the task c that calls is ready and isn't due a message (R7), the body of a call that no refusal of its row
+--                       stops leaves R1 to R6, and the lists that its move says
+--   BodyFrame           a body changes only the records and the bits of STAT that the call touches, and not byte 1; DispatchFrame: handing
+--                       over changes only the task c that then runs, of its STAT MHBS alone, and the message that it is handed
 --   NeverStuck          refusal 15 is given on no board, whatever its bytes
 --   PassingStaysPassing a call on a board that passes leaves one that passes
 --   EveryBlockOnce      after an accepted call, on whatever bytes, every block is free, held by one present task, or in one queue once
@@ -22,12 +22,12 @@ use Rattle.board.specs.Claims.{Bytes}
 use Rattle.paper.specs.declared.call.Call.{Call}
 use Rattle.paper.specs.declared.answer.Refusal.the-variants.{NothingToDeliver}
 use Rattle.paper.specs.declared.answer.Answer.the-variants.{Accepted, Refused}
-use Rattle.paper.specs.Rules.{queue, running, passes}
+use Rattle.paper.specs.Rules.{queue, passes}
 use Rattle.paper.specs.Changes.{clears, takeFirst}
 use Rattle.paper.specs.Refusals.{ownRow, Go, lowest}
 use Rattle.paper.specs.Outcomes.{body, effect}
 use Rattle.linked.specs.Claims.{Whereabouts}
-use Rattle.kept.specs.Settled.{Settled, Fitting}
+use Rattle.kept.specs.Settled.{Settled, Awake, Fitting}
 use Rattle.kept.specs.Touched.{touched, orderAfter, queuesAfter, queueOf, relinks, Frame}
 
 -- sizes for which a place byte tells held from queued and both from 128, links are words, and one limit serves both kinds of walk
@@ -38,20 +38,20 @@ pub record Sizes (z : Size) : Type 0 where
 
 abbrev pub BodySettles : Type 0
 BodySettles =
-    (z : Size) (b : Board) (order : List ℕ) (queues : ℕ → List ℕ) (call : Call) → Sizes z → Fitting call → Settled z b order queues
-    → let c = running z b in has (task b c .stat) MHBS ≡ false → lowest (ownRow z b c call) ≡ Go
+    (z : Size) (b : Board) (order : List ℕ) (queues : ℕ → List ℕ) (c : ℕ) (call : Call) → Sizes z → Fitting call
+    → Settled z b order queues → Awake b c → has (task b c .stat) MHBS ≡ false → lowest (ownRow z b c call) ≡ Go
     → let move = touched b c call .move in Settled z (body z b c call .board) (orderAfter b order move) (queuesAfter b queues move)
 
 -- ---- what else stays, of any board
 abbrev pub BodyFrame : Type 0
 BodyFrame =
-    (z : Size) (b : Board) (call : Call) → let c = running z b in let t = touched b c call in let r = queueOf (t .move) in
+    (z : Size) (b : Board) (c : ℕ) (call : Call) → let t = touched b c call in let r = queueOf (t .move) in
     Frame b (body z b c call .board) (t .tasks) (t .bits) (t .messages) r (queue z b r) (relinks (t .move))
 
 abbrev pub DispatchFrame : Type 0
 DispatchFrame =
-    (z : Size) (b : Board) → let c = running z b in
-    Frame b (clears (takeFirst z b c) c MHBS) (c ∷ []) (MHBS ∷ []) (task b c .mptr ∷ []) c (queue z b c) false
+    (z : Size) (b : Board) (c : ℕ)
+    → Frame b (clears (takeFirst z b c) c MHBS) (c ∷ []) (MHBS ∷ []) (task b c .mptr ∷ []) c (queue z b c) false
 
 -- ---- histories of a board
 abbrev pub NeverStuck : Type 0

@@ -2,9 +2,12 @@
 -- calls must believe this file.
 --   Fits z b                   the records are as many as the size says and every field fits its bytes
 --   Settled z b order queues   b fits and keeps R1 to R6; its links list the tasks as order and the messages of task k as queues k
+--   Awake b c                  the task c that calls, if any, is ready
 --   Fitting call               the call's arguments are words and bytes, as the code's types have it; AllFit calls: so of each
 -- Assumes nothing.
 use mathlib.Core.Path.{_≡_}
+use mathlib.Core.Logic.{_≢_}
+use mathlib.Core.Bool.{true}
 use mathlib.Core.List.{List}
 use Prim.Native.Nat.{ℕ}
 use lib.ListN.{length}
@@ -17,6 +20,7 @@ use Rattle.board.specs.Records.{Byte, Word}
 use Rattle.board.specs.Places.{placeOf, placeByte}
 use Rattle.board.specs.Board.{Board, task, message, place}
 use Rattle.paper.specs.declared.call.Call.{Call}
+use Rattle.paper.specs.Rules.{ready}
 use Rattle.paper.specs.Arguments.{argumentsOf}
 use Rattle.linked.specs.Sound.{Regular, Flags}
 
@@ -37,7 +41,7 @@ pub record FitsMessage (u : Message) : Type 0 where
 
 pub record Fits (z : Size) (b : Board) : Type 0 where
   pub first : Byte (b .first)
-  pub byte1 : Byte (b .byte1)
+  pub running : Byte (b .running)
   pub zeros : length (b .zeros) ≡ 2
   pub tasks : length (b .tasks) ≡ z .tasks
   pub messages : length (b .messages) ≡ z .messages
@@ -50,6 +54,9 @@ pub record Settled (z : Size) (b : Board) (order : List ℕ) (queues : ℕ → L
   pub fits : Fits z b
   pub regular : Regular z b order queues  -- R1 to R5
   pub flags : (k : ℕ) → Numbered (z .tasks) k → Flags (task b k .stat) (task b k .mptr ≡ 0)  -- R6
+
+abbrev pub Awake : Board → ℕ → Type 0
+Awake b c = c ≢ 0 → ready b c ≡ true
 
 abbrev pub Fitting : Call → Type 0
 Fitting call = All Word (argumentsOf call .words) × All Byte (argumentsOf call .bytes)

@@ -136,7 +136,7 @@ SameBut bits s u = (bit : ℕ) → In bit everyBit → Out bit bits → has s bi
 -- d is b but for the tasks ts, with those bits of STAT, the messages ms, MPTR of task r, LINKs in its queue q (a list of messages), and, where
 -- order says so, LINKs of tasks
 pub record Frame (b d : Board) (ts bits ms : List ℕ) (r : ℕ) (q : List ℕ) (order : Bool) : Type 0 where
-  pub byte1 : d .byte1 ≡ b .byte1
+  pub running : d .running ≡ b .running
   pub zeros : d .zeros ≡ b .zeros
   pub first : order ≡ false → d .first ≡ b .first
   pub tasks : (k : ℕ) → Out k ts → task d k ≡ taskWithLink (task b k) (task d k .link)

@@ -19,14 +19,15 @@ use Rattle.board.specs.Numbers.{taskNo, Numbered}
 use Rattle.board.specs.Records.{noTask}
 use Rattle.board.specs.Places.{isQueuedAt}
 use Rattle.board.specs.Board.{Board, task, place}
-use Rattle.paper.specs.Rules.{isThere, present, nextMessage, order, queue, passes}
-use Rattle.linked.specs.Linked.{Linked}
+use Rattle.paper.specs.Rules.{isThere, present, nextTask, nextMessage, taskNumber, order, queue, rule3, passes}
+use Rattle.linked.specs.Linked.{Listing, Linked}
 use Rattle.linked.specs.Sound.{PlaceGood, Sound}
 use Rattle.linked.specs.Claims.{Whereabouts, free, held, queued}
-use Rattle.linked.proofs.Says.{Says, _&_, says-zero, says-not, says-each}
+use Rattle.linked.proofs.Says.{Says, _&_, says-zero, says-each}
 use Rattle.linked.proofs.Tests.{says-allZero, says-goodTask, says-goodMessage, says-isQueuedAt, says-goodFlags}
 use Rattle.linked.proofs.Listings.{says-lists, listing-walk}
 use Rattle.linked.proofs.Running.{present-numbered}
+use Rattle.linked.proofs.Chosen.{says-rule7}
 
 -- the records are as many as the size says, and a walk's limit serves both kinds
 module _ (z : Size) (b : Board) (tasks : length (b .tasks) ≡ z .tasks) (places : length (b .places) ≡ z .messages)
@@ -60,32 +61,29 @@ module _ (z : Size) (b : Board) (tasks : length (b .tasks) ≡ z .tasks) (places
       record { tasks = rw (w .0) (h .tasks); messages = λ k i. rw (w .1 k i) (h .messages k i) }
 
   -- ---- the rules
-  -- all of them, as the paper words them
+  -- R3: the links list the tasks
+  pub says-tasks : Says (rule3 z b) (Listing (nextTask b) (taskNumber b) (b .first) (order z b) (λ k. present b k ≡ true))
+  says-tasks = says-lists noTask isThere (b .tasks) refl (λ k. Iff·rfl) fuel-tasks
+
+  -- all of them, as the papers word them
   pub says-passes : Says (passes z b) (Sound z b)
   says-passes =
       Iff·trans
-      (says-zero & says-allZero (b .zeros) & says-each (λ k. says-goodTask _)
-      & says-lists noTask isThere (b .tasks) refl (λ k. Iff·rfl) fuel-tasks
-      & says-each (λ m. says-goodMessage z b m (place b m))
+      (says-allZero (b .zeros)
+      & (says-each (λ k. says-goodTask _) & says-tasks & says-each (λ m. says-goodMessage z b m (place b m))
       & says-each (λ k. says-lists Free (isQueuedAt k) (b .places) refl (λ m. says-isQueuedAt k (place b m)) fuel-places)
-      & says-each (λ k. says-goodFlags _ _ _ says-zero) & says-not) (
-        (λ (((((((byte1, zeros), records), listed), places), lists), flags), runner). record {
+      & says-each (λ k. says-goodFlags _ _ _ says-zero)) & says-rule7 z b tasks) (
+        (λ ((zeros, ((((records, listed), places), lists), flags)), (runs, idle)). record {
           order = order z b;
           queues = queue z b;
-          regular = record {
-            byte1 = byte1;
-            zeros = zeros;
-            records = records;
-            linked = record { tasks = listed; messages = lists };
-            places = places;
-          };
+          regular = record { zeros = zeros; records = records; linked = record { tasks = listed; messages = lists }; places = places };
           flags = flags;
-          runner = runner;
+          runs = runs;
+          idle = idle;
         }),
         λ s. let w = linked-walked (s .order) (s .queues) (s .regular .linked) in
-            let e = linked-walks (s .order) (s .queues) (s .regular .linked) .0 in
             let r = s .regular in
-            (((((((r .byte1, r .zeros), r .records), w .tasks), r .places), w .messages), s .flags), rw e (s .runner)),
+            ((r .zeros, ((((r .records, w .tasks), r .places), w .messages), s .flags)), (s .runs, s .idle)),
       )
 
   -- ---- a board that passes

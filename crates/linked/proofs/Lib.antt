@@ -2,5 +2,6 @@ pub mod Says
 pub mod Tests
 pub mod Listings
 pub mod Running
+pub mod Chosen
 pub mod Boards
 pub mod Theorems

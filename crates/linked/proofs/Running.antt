@@ -1,6 +1,6 @@
--- The records that pass a test, by their numbers: which tasks are present, which messages are placed, who runs, the lowest free message.
+-- The records that pass a test, by their numbers: which tasks are present or ready, which messages are placed, the lowest free message.
 -- Assumes nothing.
-use mathlib.Core.Path.{_≡_, refl, sym, ap, _∙_}
+use mathlib.Core.Path.{_≡_, refl, sym, ap, _∙_, subst}
 use mathlib.Core.Logic.{_≢_, inl, inr}
 use mathlib.Core.Bool.{Bool, true, false, not, _&&_, true≢false}
 use mathlib.Core.List.{List, [], _∷_}
@@ -9,8 +9,9 @@ use native.Mathlib.Omega.{arith}
 use lib.ListN.{length, getD}
 use borrow.Author.Tests.{not-true}
 use Rattle.links.specs.Queue.{firstOf, firstWith, which}
-use Rattle.links.specs.Chain.{In}
+use Rattle.links.specs.Chain.{In, Out, Sorted}
 use Rattle.links.proofs.Bools.{both}
+use Rattle.links.proofs.Members.{all-at}
 use Rattle.links.proofs.Exactly.{in-which}
 use Rattle.board.specs.declared.numbers.Size.{Size}
 use Rattle.board.specs.declared.status.Status.{Status}
@@ -20,7 +21,7 @@ use Rattle.board.specs.Status.{WAIT, IWAT, has, isPresent}
 use Rattle.board.specs.Records.{noTask}
 use Rattle.board.specs.Places.{isFree}
 use Rattle.board.specs.Board.{Board, nth, task, place}
-use Rattle.paper.specs.Rules.{isThere, present, order, ready, running}
+use Rattle.paper.specs.Rules.{isThere, present, ready}
 use Rattle.paper.specs.Effects.{lowestFree}
 use Rattle.linked.proofs.Says.{says-never}
 use Rattle.linked.proofs.Tests.{says-isFree}
@@ -46,6 +47,29 @@ first-with f (x ∷ q) h = step (f x) refl (first-with f q)
         → In (firstWith f (x ∷ q)) (x ∷ q) × (f (firstWith f (x ∷ q)) ≡ true)
     step true e ih = rw (e, firstWith) (inl refl, e)
     step false e ih = let r = ih (rw (e, firstWith) at h) in rw (e, firstWith) (inr (r .0), r .1)
+
+-- where there is none, none passes
+pub first-none : (f : ℕ → Bool) (q : List ℕ) → Out 0 q → firstWith f q ≡ 0 → (x : ℕ) → In x q → f x ≡ false
+first-none f [] o h x i = absurd i
+first-none f (y ∷ q) o h x i = step (f y) refl i (first-none f q (o .1))
+  where
+    step : (t : Bool) → f y ≡ t → In x (y ∷ q) → (firstWith f q ≡ 0 → (x : ℕ) → In x q → f x ≡ false) → f x ≡ false
+    step true e i ih = absurd (o .0 (sym (rw (e, firstWith) at h)))
+    step false e (inl j) ih = ap f j ∙ e
+    step false e (inr j) ih = ih (rw (e, firstWith) at h) x j
+
+-- in a sorted queue none that passes has a smaller priority number
+pub first-least : (f : ℕ → Bool) (number : ℕ → ℕ) (q : List ℕ) → Sorted number q → (x : ℕ) → In x q → f x ≡ true
+    → number (firstWith f q) ≤ number x
+first-least f number [] s x i h = absurd i
+first-least f number (y ∷ q) s x i h = step (f y) refl i (first-least f number q (s .1))
+  where
+    step : (t : Bool) → f y ≡ t → In x (y ∷ q) → ((x : ℕ) → In x q → f x ≡ true → number (firstWith f q) ≤ number x)
+        → number (firstWith f (y ∷ q)) ≤ number x
+    step true e (inl j) ih = rw (e, firstWith) (subst (λ (w : ℕ). number y ≤ number w) (sym j) (omega arith))
+    step true e (inr j) ih = rw (e, firstWith) (all-at (λ w. number y ≤ number w) q (s .0) x j)
+    step false e (inl j) ih = absurd (true≢false (sym h ∙ ap f j ∙ e))
+    step false e (inr j) ih = rw (e, firstWith) (ih x j h)
 
 nth-behind : {A : Type 0} (none : A) (l : List A) (k : ℕ) → 1 ≤ k → getD l (k - 1) none ≡ nth none l k
 nth-behind none l zero h = absurd (omega arith)
@@ -76,7 +100,7 @@ which-none none f l d e k p = step (which f 1 l) (which-nth none f l d 0 .0) (wh
 pub lowest-free : (b : Board) → lowestFree b ≢ 0 → Numbered (length (b .places)) (lowestFree b) × (place b (lowestFree b) ≡ Free)
 lowest-free b h = let r = which-first Free isFree (b .places) h in (r .0, says-isFree (place b (lowestFree b)) .0 (r .1))
 
--- ---- who runs
+-- ---- who is ready
 -- a ready task is present and waits for nothing
 pub ready-says : (b : Board) (k : ℕ) → ready b k ≡ true
     → (present b k ≡ true) × (has (task b k .stat) WAIT ≡ false) × (has (task b k .stat) IWAT ≡ false)
@@ -85,12 +109,3 @@ ready-says b k e =
     let r = both (isPresent s && not (has s WAIT)) (not (has s IWAT)) e in
     let p = both (isPresent s) (not (has s WAIT)) (r .0) in
     (p .0, not-true (has s WAIT) (p .1), not-true (has s IWAT) (r .1))
-
--- the running task is one of those walked, and ready
-pub runs : (z : Size) (b : Board) → running z b ≢ 0 → In (running z b) (order z b) × (ready b (running z b) ≡ true)
-runs z b h = first-with (ready b) (order z b) h
-
--- a running task is present and waits for nothing
-pub runner-says : (z : Size) (b : Board) → let c = running z b in
-    c ≢ 0 → (present b c ≡ true) × (has (task b c .stat) WAIT ≡ false) × (has (task b c .stat) IWAT ≡ false)
-runner-says z b h = ready-says b (running z b) (runs z b h .1)

@@ -6,7 +6,7 @@ use Rattle.board.specs.declared.places.Place.the-variants.{QueuedAt}
 use Rattle.board.specs.Numbers.{taskNo, msgNo}
 use Rattle.board.specs.Status.{WAIT, IWAT, MHBS}
 use Rattle.board.specs.Records.{withPrio}
-use Rattle.board.specs.Board.{Board, boardOf, bytesOf, message, withFirst, withMessage, withPlace}
+use Rattle.board.specs.Board.{Board, boardOf, bytesOf, message, withFirst, withRunning, withMessage, withPlace}
 use Rattle.paper.specs.declared.call.Call.the-variants.{Find}
 use Rattle.paper.specs.declared.answer.Rule.{Rule}
 use Rattle.paper.specs.declared.answer.Rule.the-variants.{R1, R2, R3, R4, R5, R6, R7}
@@ -52,9 +52,29 @@ case-r5-queue = refl
 pub case-r6-task : checked (sets sound 2 WAIT) ≡ broken (R6 (taskNo 2))
 case-r6-task = refl
 
--- task 1 waits for an interrupt, and task 2, the first ready one, is due a message
-pub case-r7-running : checked (sets (sets sound 1 IWAT) 2 MHBS) ≡ broken (R7 (taskNo 2))
-case-r7-running = refl
+-- task 1 runs and is due a message
+pub case-r7-due : checked (sets sound 1 MHBS) ≡ broken (R7 1)
+case-r7-due = refl
+
+-- nobody is said to run, and two are ready
+pub case-r7-nobody : checked (withRunning sound 0) ≡ broken (R7 0)
+case-r7-nobody = refl
+
+-- task 2 runs, and task 1, of a smaller priority number, is ready
+pub case-r7-outranked : checked (withRunning sound 2) ≡ broken (R7 2)
+case-r7-outranked = refl
+
+-- task 1 is said to run and waits for an interrupt
+pub case-r7-waits : checked (sets sound 1 IWAT) ≡ broken (R7 1)
+case-r7-waits = refl
+
+-- both wait, and one is said to run
+pub case-r7-none-ready : checked (sets (sets sound 1 IWAT) 2 IWAT) ≡ broken (R7 1)
+case-r7-none-ready = refl
+
+-- byte 1 names no task of the board: it is told as it is
+pub case-r7-raw-byte : checked (withRunning sound 255) ≡ broken (R7 255)
+case-r7-raw-byte = refl
 
 -- a call is told the same as the check
 pub case-call-told : effect tiny (bytesOf (sets sound 2 WAIT)) (Find 0) .answer ≡ broken (R6 (taskNo 2))

@@ -1,7 +1,7 @@
 -- The claims of specs/Claims on the rule and the record that refusal 2 names, proved. Assumes nothing.
 use mathlib.Core.Path.{_≡_, refl, sym, ap, _∙_, subst}
 use mathlib.Core.Logic.{inl, inr, _↔_}
-use mathlib.Core.Bool.{Bool, true, false, true≢false}
+use mathlib.Core.Bool.{Bool, true, false, _&&_, true≢false}
 use mathlib.Core.List.{List, [], _∷_}
 use Prim.Native.Nat.{ℕ, suc, _-_, _≤_}
 use native.Mathlib.Omega.{arith}
@@ -23,6 +23,7 @@ use Rattle.board.specs.Records.{noTask}
 use Rattle.board.specs.Status.{MHBS, has}
 use Rattle.board.specs.Places.{isQueuedAt}
 use Rattle.board.specs.Board.{Board, total, boardOf, task, place}
+use Rattle.board.specs.Writes.{putRunning}
 use Rattle.board.proofs.Codec.{length-tasks}
 use Rattle.paper.specs.declared.answer.Rule.{Rule}
 use Rattle.paper.specs.declared.answer.Rule.the-variants.{R1, R2, R3, R4, R5, R6, R7}
@@ -31,30 +32,30 @@ use Rattle.paper.specs.declared.answer.Refusal.the-variants.{RuleBroken}
 use Rattle.paper.specs.declared.answer.Answer.{Answer}
 use Rattle.paper.specs.declared.answer.Answer.the-variants.{Accepted, Refused}
 use Rattle.paper.specs.Answers.{ruleNumber, recordNumber, told, numberOf, handed}
-use Rattle.paper.specs.Rules.{nextMessage, messageNumber, queue, running, passes}
-use Rattle.paper.specs.Rules.{rule1, rule2At, rule3, rule4At, rule5At, rule6At, rule7}
-use Rattle.paper.specs.Named.{unless, brokenRule}
-use Rattle.paper.specs.Refusals.{Test, no1, no2, ownRow, Verdict, lowest}
+use Rattle.paper.specs.Rules.{nextMessage, messageNumber, queue, firstReady, rules2to6, passes}
+use Rattle.paper.specs.Rules.{rule2At, rule3, rule4At, rule5At, rule6At}
+use Rattle.paper.specs.Named.{unless, brokenFrom2, brokenRule}
+use Rattle.paper.specs.Refusals.{Test, no1, no2By, ownRow, Verdict, lowest}
 use Rattle.paper.specs.Outcomes.{Outcome, accepted, judge, dispatch, body}
-use Rattle.paper.specs.Claims.{Given, Names, VerdictStays, BrokenAt, NoLater, LowestIsNamed}
+use Rattle.paper.specs.Conversion.{oldPasses, oldBroken}
+use Rattle.paper.specs.Claims.{Given, Names, VerdictStays, Ends1And7, today, old, BrokenAt, NoLater, Lowest, LowestIsNamed}
 use Rattle.paper.specs.Claims.{Fault, NoEnd, Meets, Misses, Falls, WrongQueue, RuleOnlyWith2}
 use Rattle.paper.proofs.Rows.{rules-kept, rule-broken}
 use Rattle.paper.proofs.Theorems.{ascends, in-above, row-ascends, lowest-is-given, ruleAt, at-rule, number-2, others-told}
 use Rattle.paper.proofs.Which.{nth-numbered, which-nth}
 
 -- ---- 2 is given where the length is right and a rule is broken, and nowhere else
-module _ (z : Size) (l : List ℕ) (tests : List Test) where
-  -- the tests of a call or of the check, and the answer where the outcome is o if none applies
+module _ (z : Size) (l : List ℕ) (r : Rule) (passed : Bool) (tests : List Test) where
+  -- the tests of a call, of the check or of the conversion, and the answer where the outcome is o if none applies
   abbrev all : List Test
-  all = no1 z l ∷ no2 z (boardOf z l) ∷ tests
+  all = no1 z l ∷ no2By r passed ∷ tests
 
   abbrev answered : Outcome → Answer
   answered o = judge l (lowest all) o .answer
 
   -- there it is given, and names the rule
-  gives-2 : (o : Outcome) → length l ≡ total z → passes z (boardOf z l) ≡ false
-      → answered o ≡ Refused (RuleBroken (brokenRule z (boardOf z l)))
-  gives-2 o long broken = ap (λ (v : Verdict). judge l v o .answer) (rule-broken z l (boardOf z l) tests long broken)
+  gives-2 : (o : Outcome) → length l ≡ total z → passed ≡ false → answered o ≡ Refused (RuleBroken r)
+  gives-2 o long broken = ap (λ (v : Verdict). judge l v o .answer) (rule-broken z l r passed tests long broken)
 
   -- where nothing below 2 applies the length is right
   right-length : ((t : Test) → In t all → t .applies ≡ true → 2 ≤ numberOf (t .refusal)) → length l ≡ total z
@@ -62,30 +63,34 @@ module _ (z : Size) (l : List ℕ) (tests : List Test) where
       eqb-true (length l) (total z) (not-false _ (refuted _ (λ a. let k = low (no1 z l) (inl refl) a in omega arith)))
 
   -- the test of number 2 is that of the rules, where those behind it are above 2
-  is-no2 : ascends 2 tests ≡ true → (t : Test) → In t all → numberOf (t .refusal) ≡ 2 → t ≡ no2 z (boardOf z l)
+  is-no2 : ascends 2 tests ≡ true → (t : Test) → In t all → numberOf (t .refusal) ≡ 2 → t ≡ no2By r passed
   is-no2 above t (inl e) n = let k = ap (λ (x : Test). numberOf (x .refusal)) e in absurd (omega arith)
   is-no2 above t (inr (inl e)) n = e
   is-no2 above t (inr (inr i)) n = let k = in-above 2 tests above t i in absurd (omega arith)
 
   only-there : ascends 2 tests ≡ true → (a : Answer) → Given a all → handed a .number ≡ 2
-      → (length l ≡ total z) × (passes z (boardOf z l) ≡ false)
+      → (length l ≡ total z) × (passed ≡ false)
   only-there above (Accepted v c m) g n = absurd (omega arith)
   only-there above (Refused q) g n =
-      let ((t, i, a, r), low) = g (λ e. let k = ap numberOf e in omega arith) in
-      let e = is-no2 above t i (ap numberOf r ∙ n) in
+      let ((t, i, a, s), low) = g (λ e. let k = ap numberOf e in omega arith) in
+      let e = is-no2 above t i (ap numberOf s ∙ n) in
       (right-length (λ t i a. let k = low t i a in omega arith), not-true _ (sym (ap (λ (x : Test). x .applies) e) ∙ a))
 
-  names : ascends 2 tests ≡ true → (o : Outcome) → Given (answered o) all → Names z l (answered o)
+  names : ascends 2 tests ≡ true → (o : Outcome) → Given (answered o) all → Names z l r passed (answered o)
   names above o g =
       let there = only-there above (answered o) g in
       ((there, λ h. ap (λ (a : Answer). handed a .number) (gives-2 o (h .0) (h .1))), λ n. gives-2 o (there n .0) (there n .1))
 
 pub verdict-stays : VerdictStays
-verdict-stays z l = let b = boardOf z l in let c = running z b in let (calls, checks, freshes) = lowest-is-given z l in (
-  (λ call. names z l (ownRow z b c call) (row-ascends z l b c call) (dispatch z l (body z b c call)) (calls call)),
-  names z l [] refl (accepted 0 c 0 l) checks,
-  λ long sound. ap (λ (v : Verdict). judge l v (accepted 0 c 0 l) .answer) (rules-kept z l b [] long sound),
-)
+verdict-stays z l =
+    let b = boardOf z l in
+    let c = b .running in
+    let (calls, checks, freshes, converts) = lowest-is-given z l in (
+      (λ call. names z l (brokenRule z b) (passes z b) (ownRow z b c call) (row-ascends z l b c call) (dispatch z l (body z b c call)) (calls call)),
+      names z l (brokenRule z b) (passes z b) [] refl (accepted 0 c 0 l) checks,
+      names z l (oldBroken z b) (oldPasses z b) [] refl (accepted 0 _ 0 (putRunning l (firstReady z b))) converts,
+      λ long sound. ap (λ (v : Verdict). judge l v (accepted 0 c 0 l) .answer) (rules-kept z l (brokenRule z b) (passes z b) [] long sound),
+    )
 
 -- ---- the lowest rule is named, with the smallest record
 -- a rule has a number from 1 to 7
@@ -96,43 +101,40 @@ rule-number R3 = (lit≤ tt, lit≤ tt)
 rule-number (R4 m) = (lit≤ tt, lit≤ tt)
 rule-number (R5 k) = (lit≤ tt, lit≤ tt)
 rule-number (R6 k) = (lit≤ tt, lit≤ tt)
-rule-number (R7 k) = (lit≤ tt, lit≤ tt)
+rule-number (R7 c) = (lit≤ tt, lit≤ tt)
 
-module _ (z : Size) (b : Board) where
+module _ (by : Ends1And7) (z : Size) (b : Board) where
   -- the rules as tests, by their numbers
   abbrev rule : ℕ → Bool
   rule i =
-      getD (rule1 b ∷ each (rule2At b) (z .tasks) ∷ rule3 z b ∷ each (rule4At z b) (z .messages) ∷ each (rule5At z b) (z .tasks)
-      ∷ each (rule6At b) (z .tasks) ∷ rule7 z b ∷ []) (i - 1) true
+      getD (by .first ∷ each (rule2At b) (z .tasks) ∷ rule3 z b ∷ each (rule4At z b) (z .messages) ∷ each (rule5At z b) (z .tasks)
+      ∷ each (rule6At b) (z .tasks) ∷ by .last ∷ []) (i - 1) true
 
   -- one that is broken at a record fails
-  broken-fails : (r : Rule) → BrokenAt z b r → rule (ruleNumber r) ≡ false
+  broken-fails : (r : Rule) → BrokenAt by z b r → rule (ruleNumber r) ≡ false
   broken-fails R1 h = h
   broken-fails (R2 k) ((l, u), e) = each-fails (rule2At b) (z .tasks) (k .0) l u e
   broken-fails R3 h = h
   broken-fails (R4 m) ((l, u), e) = each-fails (rule4At z b) (z .messages) (m .0) l u e
   broken-fails (R5 k) ((l, u), e) = each-fails (rule5At z b) (z .tasks) (k .0) l u e
   broken-fails (R6 k) ((l, u), e) = each-fails (rule6At b) (z .tasks) (k .0) l u e
-  broken-fails (R7 k) (w, c, e) = e
+  broken-fails (R7 c) (w, e) = e
 
   -- r is broken, and of those of its number at the smallest record
   abbrev Smallest : Rule → Type 0
-  Smallest r = BrokenAt z b r × ((n : ℕ) → BrokenAt z b (ruleAt (ruleNumber r) n) → recordNumber r ≤ n)
-
-  abbrev Lowest : Rule → Type 0
-  Lowest r = BrokenAt z b r × ((s : Rule) → BrokenAt z b s → NoLater r s)
+  Smallest r = BrokenAt by z b r × ((n : ℕ) → BrokenAt by z b (ruleAt (ruleNumber r) n) → recordNumber r ≤ n)
 
   -- where the rules before it hold it is the lowest
-  lowest-of : (r : Rule) → each rule (ruleNumber r - 1) ≡ true → Smallest r → Lowest r
+  lowest-of : (r : Rule) → each rule (ruleNumber r - 1) ≡ true → Smallest r → Lowest by z b r
   lowest-of r h (e, least) = (e, later)
     where
-      later : (s : Rule) → BrokenAt z b s → NoLater r s
+      later : (s : Rule) → BrokenAt by z b s → NoLater r s
       later s g = step (ℕ-discrete (ruleNumber r) (ruleNumber s)) (leb (ruleNumber s) (ruleNumber r - 1)) refl
         where
           step : Dec (ruleNumber r ≡ ruleNumber s) → (t : Bool) → leb (ruleNumber s) (ruleNumber r - 1) ≡ t → NoLater r s
           step (yes i) t k =
-              let here : BrokenAt z b (ruleAt (ruleNumber s) (recordNumber s)) = subst (BrokenAt z b) (sym (at-rule s)) g in
-              inr (i, least (recordNumber s) (subst (λ (n : ℕ). BrokenAt z b (ruleAt n (recordNumber s))) (sym i) here))
+              let here : BrokenAt by z b (ruleAt (ruleNumber s) (recordNumber s)) = subst (BrokenAt by z b) (sym (at-rule s)) g in
+              inr (i, least (recordNumber s) (subst (λ (n : ℕ). BrokenAt by z b (ruleAt n (recordNumber s))) (sym i) here))
           step (no i) true k =
               let holds = each-at rule (ruleNumber r - 1) h (ruleNumber s) (rule-number s .0) (leb-true _ _ k) in
               absurd (true≢false (sym holds ∙ broken-fails s g))
@@ -140,9 +142,9 @@ module _ (z : Size) (b : Board) where
 
   -- the rules in order: r where it is broken, else one of those behind it
   lowest-unless : (n : ℕ) (r s : Rule) → each rule n ≡ true → ruleNumber r ≡ suc n → (rule (suc n) ≡ false → Smallest r)
-      → (each rule (suc n) ≡ true → Lowest s) → Lowest (unless (rule (suc n)) r s)
+      → (each rule (suc n) ≡ true → Lowest by z b s) → Lowest by z b (unless (rule (suc n)) r s)
   lowest-unless n r s h i here behind =
-      cond-holds Lowest (rule (suc n)) s r (λ e. behind (and-true (each rule n) (rule (suc n)) h e))
+      cond-holds (Lowest by z b) (rule (suc n)) s r (λ e. behind (and-true (each rule n) (rule (suc n)) h e))
       (λ e. let j : n ≡ ruleNumber r - 1 = omega arith in lowest-of r (rw (← j) h) (here e))
 
 -- R2, R4, R5 and R6 alike
@@ -150,22 +152,27 @@ smallest : (f : ℕ → Bool) (n : ℕ) → each f n ≡ false → let k = small
     (Numbered n k × (f k ≡ false)) × ((i : ℕ) → Numbered n i × (f i ≡ false) → k ≤ i)
 smallest f n e = ((smallest-one f n e, smallest-fails f n e), λ i (w, g). smallest-least f n e i (w .0) g)
 
--- R7 names a task: a number outside the board is due no message
-running-within : (z : Size) (l : List ℕ) → let b = boardOf z l in rule7 z b ≡ false → Numbered (z .tasks) (running z b)
-running-within z l e = let b = boardOf z l in
-    subst (λ (n : ℕ). Numbered n (running z b)) (length-tasks z l)
-    (nth-numbered noTask (λ t. has (t .stat) MHBS) (b .tasks) refl (running z b) (not-false _ e))
+-- the first six tests in a row are the first and the others together
+regrouped : (a b c d e f : Bool) → a && b && c && d && e && f ≡ true → a && (b && c && d && e && f) ≡ true
+regrouped true b c d e f h = h
+regrouped false b c d e f h = h
+
+-- R1 and R7 by the rules of today or by the old ones
+named : (by : Ends1And7) (z : Size) (b : Board) → by .first && rules2to6 z b && by .last ≡ false
+    → Lowest by z b (unless (by .first) R1 (brokenFrom2 z b (R7 (by .told))))
+named by z b broken =
+    lowest-unless by z b 0 R1 _ refl refl (λ e. (e, λ n h. omega arith))
+    (λ h. lowest-unless by z b 1 (R2 _) _ h refl (smallest (rule2At b) (z .tasks))
+    (λ h. lowest-unless by z b 2 R3 _ h refl (λ e. (e, λ n h. omega arith))
+    (λ h. lowest-unless by z b 3 (R4 _) _ h refl (smallest (rule4At z b) (z .messages))
+    (λ h. lowest-unless by z b 4 (R5 _) _ h refl (smallest (rule5At z b) (z .tasks))
+    (λ h. lowest-unless by z b 5 (R6 _) _ h refl (smallest (rule6At b) (z .tasks))
+    (λ h. let e = refuted (by .last) (λ e. true≢false (sym (and-true (by .first && rules2to6 z b) (by .last) (regrouped (by .first) (each (rule2At b) (z .tasks)) (rule3 z b)
+    (each (rule4At z b) (z .messages)) (each (rule5At z b) (z .tasks)) (each (rule6At b) (z .tasks)) h) e) ∙ broken)) in
+    lowest-of by z b (R7 _) h ((refl, e), λ n (w, g). omega arith)))))))
 
 pub lowest-is-named : LowestIsNamed
-lowest-is-named z l broken = let b = boardOf z l in
-    lowest-unless z b 0 R1 _ refl refl (λ e. (e, λ n h. omega arith))
-    (λ h. lowest-unless z b 1 (R2 _) _ h refl (smallest (rule2At b) (z .tasks))
-    (λ h. lowest-unless z b 2 R3 _ h refl (λ e. (e, λ n h. omega arith))
-    (λ h. lowest-unless z b 3 (R4 _) _ h refl (smallest (rule4At z b) (z .messages))
-    (λ h. lowest-unless z b 4 (R5 _) _ h refl (smallest (rule5At z b) (z .tasks))
-    (λ h. lowest-unless z b 5 (R6 _) _ h refl (smallest (rule6At b) (z .tasks))
-    (λ h. let e = refuted (rule7 z b) (λ e. true≢false (sym (and-true _ _ h e) ∙ broken)) in
-    lowest-of z b (R7 _) h ((running-within z l e, refl, e), λ n (w, c, g). omega arith)))))))
+lowest-is-named z b = (named (today z b) z b, named (old z b) z b)
 
 -- ---- R5 at task k, in words
 module _ (z : Size) (b : Board) (k : ℕ) where

@@ -62,10 +62,10 @@ case-cancelled-sleeps = refl
 case-forward-rptr : queueAfter (sleeper ++ (Send 1 1 ∷ Receive ∷ Forward 1 2 ∷ CancelMessage 1 2 ∷ Resend 1 ∷ [])) 1 ≡ 1 ∷ []
 case-forward-rptr = refl
 
--- tasks 1 and 2 with the queues 2, 4 and 3, then what LINK of message 3 says; message 4 is queued at task 1
+-- task 1 runs; tasks 1 and 2 with the queues 2, 4 and 3, then what LINK of message 3 says; message 4 is queued at task 1
 abbrev pub twoQueues : ℕ → List ℕ
 twoQueues next =
-    (1 ∷ 0 ∷ 0 ∷ 0 ∷ [])
+    (1 ∷ 1 ∷ 0 ∷ 0 ∷ [])
     ++ (0x01 ∷ 0x31 ∷ 2 ∷ 0 ∷ 2 ∷ 0 ∷ 0 ∷ 0 ∷ 0 ∷ 0 ∷ [])
     ++ (0x01 ∷ 0x33 ∷ 0 ∷ 0 ∷ 3 ∷ 0 ∷ 0 ∷ 0 ∷ 0 ∷ 0 ∷ [])
     ++ replicate 10 0

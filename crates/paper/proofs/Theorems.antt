@@ -14,6 +14,7 @@ use Rattle.board.specs.declared.numbers.Size.{Size}
 use Rattle.board.specs.Numbers.{taskNo, msgNo}
 use Rattle.board.specs.Status.{MHBS, has}
 use Rattle.board.specs.Board.{Board, boardOf, bytesOf, task}
+use Rattle.board.specs.Writes.{putRunning}
 use Rattle.paper.specs.declared.call.Call.{Call}
 use Rattle.paper.specs.declared.call.Call.the-variants.{Find}
 use Rattle.paper.specs.Arguments.{callsOf, argumentsOf}
@@ -26,10 +27,12 @@ use Rattle.paper.specs.declared.answer.Refusal.the-variants.{NotItsSende
 use Rattle.paper.specs.declared.answer.Answer.{Answer}
 use Rattle.paper.specs.declared.answer.Answer.the-variants.{Accepted, Refused}
 use Rattle.paper.specs.Answers.{ruleNumber, recordNumber, Told, told, numberOf, Handed, handed}
-use Rattle.paper.specs.Rules.{emptyQueue, running}
-use Rattle.paper.specs.Refusals.{Test, no1, no2, ownRow, row, Verdict, Go, Stop, lowest}
+use Rattle.paper.specs.Rules.{emptyQueue, firstReady, runsNext, passes}
+use Rattle.paper.specs.Named.{brokenRule}
+use Rattle.paper.specs.Refusals.{Test, no1, no2By, no2, ownRow, row, Verdict, Go, Stop, lowest}
 use Rattle.paper.specs.Outcomes.{Outcome, Undispatched, accepted, refused, judge, deliver, dispatchTo, dispatch, body, blank, effect, check}
-use Rattle.paper.specs.Claims.{NoSecondOutcome, Unchanged, RefusalChangesNothing, OnlyPassing, AcceptedPassed, Given, LowestIsGiven, HandedTells}
+use Rattle.paper.specs.Conversion.{oldPasses, oldBroken, oldNo2, convert}
+use Rattle.paper.specs.Claims.{NoSecondOutcome, Unchanged, RefusalChangesNothing, Only, AcceptedPassed, Given, LowestIsGiven, HandedTells}
 use Rattle.paper.specs.Claims.{FreshInstallAccepted, AnswersDiffer, InstallWrites}
 
 pub no-second-outcome : NoSecondOutcome
@@ -57,11 +60,12 @@ unchanged-dispatch z l d c =
     (unchanged-deliver z l d c) (unchanged-accepted (d .value) c 0 l (bytesOf (d .board)))
 
 pub refusal-changes-nothing : RefusalChangesNothing
-refusal-changes-nothing z l = let b = boardOf z l in let c = running z b in (
+refusal-changes-nothing z l = let b = boardOf z l in let c = b .running in (
   (λ call. unchanged-judge l (lowest (row z l b c call)) (dispatch z l (body z b c call))
-      (unchanged-dispatch z l (body z b c call) (running z (body z b c call .board)))),
+      (unchanged-dispatch z l _ (runsNext z (body z b c call .board)))),
   unchanged-judge l (lowest (no1 z l ∷ no2 z b ∷ [])) (accepted 0 c 0 l) (unchanged-accepted 0 c 0 l l),
   unchanged-judge l (lowest (no1 z l ∷ [])) (accepted 0 0 0 (blank z)) (unchanged-accepted 0 0 0 l (blank z)),
+  unchanged-judge l (lowest (no1 z l ∷ oldNo2 z b ∷ [])) (accepted 0 _ 0 (putRunning l _)) (unchanged-accepted 0 _ 0 l (putRunning l (firstReady z b))),
 )
 
 -- ---- the lowest is given
@@ -167,29 +171,34 @@ module _ (tests : List Test) where
       (λ e. cond-holds (λ (o : Outcome). Given (o .answer) tests) (emptyQueue (d .board) c) _ _ (λ i n. absurd (n refl)) (λ i. h)) (λ e. h)
 
 pub lowest-is-given : LowestIsGiven
-lowest-is-given z l = let b = boardOf z l in let c = running z b in (
+lowest-is-given z l = let b = boardOf z l in let c = b .running in (
   (λ call. let d = body z b c call in
       given-judged (row z l b c call) (row-ascends z l b c call) l (dispatch z l d)
-      (given-dispatched (row z l b c call) z l d (running z (d .board)))),
+      (given-dispatched (row z l b c call) z l _ (runsNext z (d .board)))),
   given-judged (no1 z l ∷ no2 z b ∷ []) refl l (accepted 0 c 0 l) (λ h. h),
   given-judged (no1 z l ∷ []) refl l (accepted 0 0 0 (blank z)) (λ h. h),
+  given-judged (no1 z l ∷ oldNo2 z b ∷ []) refl l (accepted 0 (firstReady z b) 0 (putRunning l (firstReady z b))) (λ h. h),
 )
 
 -- ---- accepted means that the board passed: 1 and 2 did not apply
-only-passing : (z : Size) (l : List ℕ) (tests : List Test) (o : Outcome) → Given (o .answer) (no1 z l ∷ no2 z (boardOf z l) ∷ tests)
-    → OnlyPassing z l o
-only-passing z l tests o g v c m e =
-    let none = subst (λ (a : Answer). Given a (no1 z l ∷ no2 z (boardOf z l) ∷ tests)) e g in
-    (eqb-true _ _ (not-false _ (none (no1 z l) (inl refl))), not-false _ (none (no2 z (boardOf z l)) (inr (inl refl))))
+only-passing : (z : Size) (l : List ℕ) (test : Size → Board → Bool) (r : Rule) (tests : List Test) (o : Outcome)
+    → Given (o .answer) (no1 z l ∷ no2By r (test z (boardOf z l)) ∷ tests) → Only test z l o
+only-passing z l test r tests o g v c m e =
+    let second : Test = no2By r (test z (boardOf z l)) in
+    let none = subst (λ (a : Answer). Given a (no1 z l ∷ second ∷ tests)) e g in
+    (eqb-true _ _ (not-false _ (none (no1 z l) (inl refl))), not-false _ (none second (inr (inl refl))))
 
 pub accepted-passed : AcceptedPassed
-accepted-passed z l = let b = boardOf z l in let (calls, checks, freshes) = lowest-is-given z l in
-    ((λ call. only-passing z l (ownRow z b (running z b) call) (effect z l call) (calls call)), only-passing z l [] (check z l) checks)
+accepted-passed z l = let b = boardOf z l in let (calls, checks, freshes, converts) = lowest-is-given z l in (
+  (λ call. only-passing z l passes (brokenRule z b) (ownRow z b (b .running) call) (effect z l call) (calls call)),
+  only-passing z l passes (brokenRule z b) [] (check z l) checks,
+  only-passing z l oldPasses (oldBroken z b) [] (convert z l) converts,
+)
 
 -- ---- the papers' numbers and values tell the answer
 -- the rule of each number, where it names n; the refusal of each number, where it comes with the rule r
 abbrev rules : ℕ → List Rule
-rules n = R1 ∷ R2 (taskNo n) ∷ R3 ∷ R4 (msgNo n) ∷ R5 (taskNo n) ∷ R6 (taskNo n) ∷ R7 (taskNo n) ∷ []
+rules n = R1 ∷ R2 (taskNo n) ∷ R3 ∷ R4 (msgNo n) ∷ R5 (taskNo n) ∷ R6 (taskNo n) ∷ R7 n ∷ []
 
 abbrev pub ruleAt : ℕ → ℕ → Rule
 ruleAt i n = getD (rules n) (i - 1) R1
@@ -210,7 +219,7 @@ at-rule R3 = refl
 at-rule (R4 m) = refl
 at-rule (R5 k) = refl
 at-rule (R6 k) = refl
-at-rule (R7 k) = refl
+at-rule (R7 c) = refl
 
 at-number : (q : Refusal) → refusalOf (told q) ≡ q
 at-number WrongLength = refl

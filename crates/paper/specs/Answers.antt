@@ -1,5 +1,5 @@
 -- Document 01, 'Numbers handed back', and document 02, Ask 1: what each answer says. A reader must believe this file.
---   ruleNumber r    the number of a broken rule, 1 to 7; recordNumber r the task or message that it names, 0 for R1 and R3
+--   ruleNumber r    the number of a broken rule, 1 to 7; recordNumber r the task or message that it names, 0 for R1 and R3, byte 1 for R7
 --   told q          the number of a refusal, and with 2 the rule and the record, else zeros; numberOf q its number alone
 --   handed a        the papers' numbers and values of an answer: 0 and three values if accepted, else what is told and zeros
 -- Assumes nothing.
@@ -21,7 +21,7 @@ ruleNumber R3 = 3
 ruleNumber (R4 m) = 4
 ruleNumber (R5 k) = 5
 ruleNumber (R6 k) = 6
-ruleNumber (R7 k) = 7
+ruleNumber (R7 c) = 7
 
 abbrev pub recordNumber : Rule → ℕ
 recordNumber R1 = 0
@@ -30,7 +30,7 @@ recordNumber R3 = 0
 recordNumber (R4 m) = m .0
 recordNumber (R5 k) = k .0
 recordNumber (R6 k) = k .0
-recordNumber (R7 k) = k .0
+recordNumber (R7 c) = c
 
 -- ---- a refusal
 pub record Told : Type 0 where

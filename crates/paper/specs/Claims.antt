@@ -1,13 +1,14 @@
 -- What holds of every call whatever its row says, as statements; their proofs are in proofs/Theorems. A reader must believe this file.
 --   NoSecondOutcome     a contract that says Ends .. o fixes the answer and all bytes
---   RefusalChangesNothing   a refused call, check or fresh leaves every byte
---   AcceptedPassed      a call or a check is accepted only of bytes of the board's length whose board passes
---   LowestIsGiven       the refusal that a call, check or fresh gives stands in its row and applies, and none of a lower number does; none is
---                       given only where none applies
+--   RefusalChangesNothing   a refused call, check, fresh or conversion leaves every byte
+--   AcceptedPassed      a call or a check is accepted only of bytes of the board's length whose board passes; a conversion only of such
+--                       bytes whose board passes the old rules
+--   LowestIsGiven       the refusal that a call, check, fresh or conversion gives stands in its row and applies, and none of a lower number
+--                       does; none is given only where none applies
 --   VerdictStays        2 is given exactly where the length is right and a rule is broken, and names what brokenRule says; a board that
---                       passes is checked as before, with the same running task
---   BrokenAt z b r      the rule r is broken at the record that it names; NoLater r s: r is a lower rule than s, or the same with no
---                       greater record
+--                       passes is accepted, with byte 1 as the running task
+--   BrokenAt by z b r   the rule r is broken at the record that it names, by the rules of today or by the old ones; NoLater r s: r is a
+--                       lower rule than s, or the same with no greater record; Lowest by z b r: it is broken, and none is lower
 --   LowestIsNamed       the rule named is broken at the record named; no lower rule is broken, and no smaller record breaks that one
 --   Fault z b k         what is wrong with the queue of task k
 --   WrongQueue          R5 at task k, in words: its own walk does not end, meets a message that is not queued there or misses one that
@@ -18,7 +19,7 @@
 -- Assumes nothing.
 use mathlib.Core.Path.{_≡_}
 use mathlib.Core.Logic.{_≢_, _⊎_, _↔_}
-use mathlib.Core.Bool.{true, false}
+use mathlib.Core.Bool.{Bool, true, false}
 use mathlib.Core.List.{List, [], _∷_}
 use Prim.Native.Nat.{ℕ, _≤_, _<_}
 use lib.ListN.{length}
@@ -37,11 +38,12 @@ use Rattle.paper.specs.declared.answer.Refusal.the-variants.{RuleBroken,
 use Rattle.paper.specs.declared.answer.Answer.{Answer}
 use Rattle.paper.specs.declared.answer.Answer.the-variants.{Accepted, Refused}
 use Rattle.paper.specs.Answers.{ruleNumber, recordNumber, numberOf, handed}
-use Rattle.paper.specs.Rules.{nextMessage, messageNumber, queue, running, passes}
+use Rattle.paper.specs.Rules.{nextMessage, messageNumber, queue, firstReady, passes}
 use Rattle.paper.specs.Rules.{rule1, rule2At, rule3, rule4At, rule5At, rule6At, rule7}
 use Rattle.paper.specs.Named.{brokenRule}
 use Rattle.paper.specs.Refusals.{Test, no1, no2, row}
 use Rattle.paper.specs.Outcomes.{Outcome, Ends, effect, fresh, check, blank}
+use Rattle.paper.specs.Conversion.{oldRule1, oldRule7, oldPasses, oldBroken, oldNo2, convert}
 
 abbrev pub NoSecondOutcome : Type 0
 NoSecondOutcome = (o : Outcome) (a e : Answer) (l m : List ℕ) → Ends a l o → Ends e m o → (a ≡ e) × (l ≡ m)
@@ -52,14 +54,17 @@ Unchanged l o = (q : Refusal) → o .answer ≡ Refused q → o .after ≡ l
 
 abbrev pub RefusalChangesNothing : Type 0
 RefusalChangesNothing =
-    (z : Size) (l : List ℕ) → ((call : Call) → Unchanged l (effect z l call)) × Unchanged l (check z l) × Unchanged l (fresh z l)
+    (z : Size) (l : List ℕ)
+    → ((call : Call) → Unchanged l (effect z l call)) × Unchanged l (check z l) × Unchanged l (fresh z l) × Unchanged l (convert z l)
 
 -- ---- accepted means that the board passed
-abbrev pub OnlyPassing : Size → List ℕ → Outcome → Type 0
-OnlyPassing z l o = (v c m : ℕ) → o .answer ≡ Accepted v c m → (length l ≡ total z) × (passes z (boardOf z l) ≡ true)
+abbrev pub Only : (Size → Board → Bool) → Size → List ℕ → Outcome → Type 0
+Only test z l o = (v c m : ℕ) → o .answer ≡ Accepted v c m → (length l ≡ total z) × (test z (boardOf z l) ≡ true)
 
 abbrev pub AcceptedPassed : Type 0
-AcceptedPassed = (z : Size) (l : List ℕ) → ((call : Call) → OnlyPassing z l (effect z l call)) × OnlyPassing z l (check z l)
+AcceptedPassed =
+    (z : Size) (l : List ℕ)
+    → ((call : Call) → Only passes z l (effect z l call)) × Only passes z l (check z l) × Only oldPasses z l (convert z l)
 
 -- ---- the lowest is given; 15 is found at dispatch and stands in no row
 abbrev pub Given : Answer → List Test → Type 0
@@ -72,38 +77,56 @@ Given (Refused q) tests =
 abbrev pub LowestIsGiven : Type 0
 LowestIsGiven =
     (z : Size) (l : List ℕ) → let b = boardOf z l in
-    ((call : Call) → Given (effect z l call .answer) (row z l b (running z b) call))
+    ((call : Call) → Given (effect z l call .answer) (row z l b (b .running) call))
     × Given (check z l .answer) (no1 z l ∷ no2 z b ∷ [])
     × Given (fresh z l .answer) (no1 z l ∷ [])
+    × Given (convert z l .answer) (no1 z l ∷ oldNo2 z b ∷ [])
 
 -- ---- which rule, and at which record
-abbrev pub Names : Size → List ℕ → Answer → Type 0
-Names z l a = let b = boardOf z l in
-    ((handed a .number ≡ 2) ↔ ((length l ≡ total z) × (passes z b ≡ false)))
-    × (handed a .number ≡ 2 → a ≡ Refused (RuleBroken (brokenRule z b)))
+-- 2 is given exactly where the length is right and the board does not pass, and it names r
+abbrev pub Names : Size → List ℕ → Rule → Bool → Answer → Type 0
+Names z l r passed a =
+    ((handed a .number ≡ 2) ↔ ((length l ≡ total z) × (passed ≡ false))) × (handed a .number ≡ 2 → a ≡ Refused (RuleBroken r))
 
 abbrev pub VerdictStays : Type 0
 VerdictStays =
     (z : Size) (l : List ℕ) → let b = boardOf z l in
-    ((call : Call) → Names z l (effect z l call .answer)) × Names z l (check z l .answer)
-    × (length l ≡ total z → passes z b ≡ true → check z l .answer ≡ Accepted 0 (running z b) 0)
+    ((call : Call) → Names z l (brokenRule z b) (passes z b) (effect z l call .answer))
+    × Names z l (brokenRule z b) (passes z b) (check z l .answer)
+    × Names z l (oldBroken z b) (oldPasses z b) (convert z l .answer)
+    × (length l ≡ total z → passes z b ≡ true → check z l .answer ≡ Accepted 0 (b .running) 0)
 
-abbrev pub BrokenAt : Size → Board → Rule → Type 0
-BrokenAt z b R1 = rule1 b ≡ false
-BrokenAt z b (R2 k) = Numbered (z .tasks) (k .0) × (rule2At b (k .0) ≡ false)
-BrokenAt z b R3 = rule3 z b ≡ false
-BrokenAt z b (R4 m) = Numbered (z .messages) (m .0) × (rule4At z b (m .0) ≡ false)
-BrokenAt z b (R5 k) = Numbered (z .tasks) (k .0) × (rule5At z b (k .0) ≡ false)
-BrokenAt z b (R6 k) = Numbered (z .tasks) (k .0) × (rule6At b (k .0) ≡ false)
-BrokenAt z b (R7 k) = Numbered (z .tasks) (k .0) × (k .0 ≡ running z b) × (rule7 z b ≡ false)
+-- what R1 and R7 say, and the record that R7 is told with: by the rules of today, and by the old ones
+pub record Ends1And7 : Type 0 where
+  pub first : Bool
+  pub last : Bool
+  pub told : ℕ
+
+abbrev pub today : Size → Board → Ends1And7
+today z b = record { first = rule1 b; last = rule7 z b; told = b .running }
+
+abbrev pub old : Size → Board → Ends1And7
+old z b = record { first = oldRule1 b; last = oldRule7 z b; told = firstReady z b }
+
+abbrev pub BrokenAt : Ends1And7 → Size → Board → Rule → Type 0
+BrokenAt by z b R1 = by .first ≡ false
+BrokenAt by z b (R2 k) = Numbered (z .tasks) (k .0) × (rule2At b (k .0) ≡ false)
+BrokenAt by z b R3 = rule3 z b ≡ false
+BrokenAt by z b (R4 m) = Numbered (z .messages) (m .0) × (rule4At z b (m .0) ≡ false)
+BrokenAt by z b (R5 k) = Numbered (z .tasks) (k .0) × (rule5At z b (k .0) ≡ false)
+BrokenAt by z b (R6 k) = Numbered (z .tasks) (k .0) × (rule6At b (k .0) ≡ false)
+BrokenAt by z b (R7 c) = (c ≡ by .told) × (by .last ≡ false)
 
 abbrev pub NoLater : Rule → Rule → Type 0
 NoLater r s = (ruleNumber r < ruleNumber s) ⊎ ((ruleNumber r ≡ ruleNumber s) × (recordNumber r ≤ recordNumber s))
 
+abbrev pub Lowest : Ends1And7 → Size → Board → Rule → Type 0
+Lowest by z b r = BrokenAt by z b r × ((s : Rule) → BrokenAt by z b s → NoLater r s)
+
 abbrev pub LowestIsNamed : Type 0
 LowestIsNamed =
-    (z : Size) (l : List ℕ) → let b = boardOf z l in let r = brokenRule z b in
-    passes z b ≡ false → BrokenAt z b r × ((s : Rule) → BrokenAt z b s → NoLater r s)
+    (z : Size) (b : Board)
+    → (passes z b ≡ false → Lowest (today z b) z b (brokenRule z b)) × (oldPasses z b ≡ false → Lowest (old z b) z b (oldBroken z b))
 
 pub data Fault (z : Size) (b : Board) (k : ℕ) : Type 0 where
   NoEnd : ends (nextMessage b) (z .messages) (task b k .mptr) ≡ false → Fault z b k

@@ -7,4 +7,5 @@ pub mod Refusals
 pub mod Outcomes
 pub mod History
 pub mod Arguments
+pub mod Conversion
 pub mod Claims

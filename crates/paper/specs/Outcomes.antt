@@ -1,6 +1,7 @@
--- Document 01, 'Dispatch' and 'Numbers handed back': a call as one function of the bytes. A reader must believe this file.
+-- Document 01, 'Dispatch' and 'Numbers handed back', and document 02, Ask 3: a call as one function of the bytes. A reader must believe
+-- this file.
 --   body z b c call     what the call does before dispatch, c running, and the value it hands back
---   dispatch z l d      what is done then; l are the bytes before the call
+--   dispatch z l d      what is done then: who runs is settled, and then handed a message if one is due; l are the bytes before the call
 --   effect z l call     the answer and all bytes afterwards of a call on the bytes l, for boards of size z
 --   fresh z l, check z l   making a fresh board, checking a board
 --   Ends a l o          a contract's one clause: the answer a and the bytes l are those of the outcome o
@@ -13,7 +14,7 @@ use lib.ListN.{replicate}
 use Rattle.links.specs.Queue.{firstOf}
 use Rattle.board.specs.declared.numbers.Size.{Size}
 use Rattle.board.specs.Status.{MHBS, has}
-use Rattle.board.specs.Board.{Board, total, boardOf, bytesOf, task}
+use Rattle.board.specs.Board.{Board, total, boardOf, bytesOf, task, withRunning}
 use Rattle.paper.specs.declared.call.Call.{Call}
 use Rattle.paper.specs.declared.call.Call.the-variants.{Install, PostInterrupt, Find, CancelTask, Claim, Prepare, Release, Send}
 use Rattle.paper.specs.declared.call.Call.the-variants.{SendAndWait, Resend, ResendAndWait, Forward, ForwardAndWait, Return}
@@ -22,7 +23,7 @@ use Rattle.paper.specs.declared.answer.Refusal.{Refusal}
 use Rattle.paper.specs.declared.answer.Refusal.the-variants.{NothingToDeliver}
 use Rattle.paper.specs.declared.answer.Answer.{Answer}
 use Rattle.paper.specs.declared.answer.Answer.the-variants.{Accepted, Refused}
-use Rattle.paper.specs.Rules.{queue, emptyQueue, running}
+use Rattle.paper.specs.Rules.{queue, emptyQueue, runsNext}
 use Rattle.paper.specs.Changes.{clears, takeFirst}
 use Rattle.paper.specs.Effects.{send, resend, forward, giveBack, waits, cancelMessage, install, cancelTask, post, waitInterrupt}
 use Rattle.paper.specs.Effects.{lowestFree, claim, release, prepare, find}
@@ -83,15 +84,16 @@ deliver z l d c = let b = d .board in
 abbrev pub dispatchTo : Size → List ℕ → Undispatched → ℕ → Outcome
 dispatchTo z l d c = cond (has (task (d .board) c .stat) MHBS) (deliver z l d c) (accepted (d .value) c 0 (bytesOf (d .board)))
 
+-- first who runs is settled, in byte 1
 abbrev pub dispatch : Size → List ℕ → Undispatched → Outcome
-dispatch z l d = dispatchTo z l d (running z (d .board))
+dispatch z l d = let c = runsNext z (d .board) in dispatchTo z l (undispatched (d .value) (withRunning (d .board) c)) c
 
 -- ---- a call
 abbrev pub called : Size → List ℕ → Board → ℕ → Call → Outcome
 called z l b c call = judge l (lowest (row z l b c call)) (dispatch z l (body z b c call))
 
 abbrev pub effect : Size → List ℕ → Call → Outcome
-effect z l call = let b = boardOf z l in called z l b (running z b) call
+effect z l call = let b = boardOf z l in called z l b (b .running) call
 
 -- ---- making a fresh board, all zeros; checking a board
 abbrev pub blank : Size → List ℕ
@@ -101,7 +103,7 @@ abbrev pub fresh : Size → List ℕ → Outcome
 fresh z l = judge l (lowest (no1 z l ∷ [])) (accepted 0 0 0 (blank z))
 
 abbrev pub check : Size → List ℕ → Outcome
-check z l = let b = boardOf z l in judge l (lowest (no1 z l ∷ no2 z b ∷ [])) (accepted 0 (running z b) 0 l)
+check z l = let b = boardOf z l in judge l (lowest (no1 z l ∷ no2 z b ∷ [])) (accepted 0 (b .running) 0 l)
 
 -- ---- contracts
 pub record Ends (a : Answer) (l : List ℕ) (o : Outcome) : Type 0 where

@@ -19,6 +19,7 @@ use Rattle.paper.specs.declared.call.Call.{Call}
 use Rattle.paper.specs.declared.call.Call.the-variants.{Install, PostInterrupt, Find, CancelTask, Claim, Prepare, Release, Send}
 use Rattle.paper.specs.declared.call.Call.the-variants.{SendAndWait, Resend, ResendAndWait, Forward, ForwardAndWait, Return}
 use Rattle.paper.specs.declared.call.Call.the-variants.{ReturnAndWait, Receive, ReceiveAndWait, CancelMessage, WaitForInterrupt}
+use Rattle.paper.specs.declared.answer.Rule.{Rule}
 use Rattle.paper.specs.declared.answer.Refusal.{Refusal}
 use Rattle.paper.specs.declared.answer.Refusal.the-variants.{WrongLength, RuleBroken, NobodyRuns, NoSuchMessage, NotHeld, NoSuchTask}
 use Rattle.paper.specs.declared.answer.Refusal.the-variants.{BadPriority, NotInstallable, BadStatus, TaskBusy, NoneFree, NotQueued}
@@ -38,8 +39,12 @@ test q t = record { refusal = q; applies = t }
 abbrev pub no1 : Size → List ℕ → Test
 no1 z l = test WrongLength (not (eqb (length l) (total z)))
 
+-- the rule r is the one to name, unless the board passes
+abbrev pub no2By : Rule → Bool → Test
+no2By r passed = test (RuleBroken r) (not passed)
+
 abbrev pub no2 : Size → Board → Test
-no2 z b = test (RuleBroken (brokenRule z b)) (not (passes z b))
+no2 z b = no2By (brokenRule z b) (passes z b)
 
 abbrev pub no3 : ℕ → Test
 no3 c = test NobodyRuns (eqb c 0)

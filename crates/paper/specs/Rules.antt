@@ -1,12 +1,15 @@
--- Document 01, 'When a board can exist': the rules R1 to R7, at a record where the rule speaks of records. A reader must believe this file.
+-- Document 01, 'When a board can exist', and document 02, Ask 3: the rules R1 to R7, at a record where the rule speaks of records, and who
+-- runs. A reader must believe this file.
 --   present b k        task k is there
 --   order z b          the task queue, queue z b k the queue of task k: what the links visit
 --   emptyQueue b k     no message is queued at task k: MPTR is the first queued message, 0 for none
---   running z b        the running task, 0 if none
---   rule1 .. rule7     the rules; ruleNAt at one record
---   passes z b         all of them hold
+--   mayRun z b c       the task c is ready, and no ready task has a smaller priority number
+--   firstReady z b     the first ready task in queue order, 0 if none
+--   runsNext z b       who runs once a call has had its effect: the task that ran stays if it may run, else it is the first ready one
+--   rule1 .. rule7     the rules, R1 and R7 as document 02, Ask 3, has them; ruleNAt at one record
+--   rules2to6 z b      those between; passes z b all of them
 -- Assumes nothing.
-use mathlib.Core.Bool.{Bool, true, false, not, _&&_, _||_}
+use mathlib.Core.Bool.{Bool, true, false, cond, not, _&&_, _||_}
 use mathlib.Core.List.{List, [], _∷_}
 use Prim.Native.Nat.{ℕ}
 use lib.Dec.{eqb, leb, ltb}
@@ -51,20 +54,34 @@ taskNumber b k = number (task b k .prio)
 abbrev pub messageNumber : Board → ℕ → ℕ
 messageNumber b m = number (message b m .prio)
 
--- the running task is the first ready one in queue order
+-- ---- who runs: byte 1 holds it, b .running
 abbrev pub ready : Board → ℕ → Bool
 ready b k = isReady (task b k .stat)
 
-abbrev pub running : Size → Board → ℕ
-running z b = firstWith (ready b) (order z b)
+abbrev pub nobodyReady : Size → Board → Bool
+nobodyReady z b = each (λ k. not (ready b k)) (z .tasks)
 
--- ---- R1: bytes 1 to 3
+-- a ready task k of a smaller priority number than c
+abbrev pub outranks : Board → ℕ → ℕ → Bool
+outranks b c k = ready b k && ltb (taskNumber b k) (taskNumber b c)
+
+abbrev pub mayRun : Size → Board → ℕ → Bool
+mayRun z b c = ready b c && each (λ k. not (outranks b c k)) (z .tasks)
+
+abbrev pub firstReady : Size → Board → ℕ
+firstReady z b = firstWith (ready b) (order z b)
+
+-- after an accepted call's effect
+abbrev pub runsNext : Size → Board → ℕ
+runsNext z b = cond (mayRun z b (b .running)) (b .running) (firstReady z b)
+
+-- ---- R1: bytes 2 and 3
 abbrev pub allZero : List ℕ → Bool
 allZero [] = true
 allZero (x ∷ l) = eqb x 0 && allZero l
 
 abbrev pub rule1 : Board → Bool
-rule1 b = eqb (b .byte1) 0 && allZero (b .zeros)
+rule1 b = allZero (b .zeros)
 
 -- ---- R2: a task record is absent, or one that a task can have
 abbrev pub zeroTask : Task → Bool
@@ -120,12 +137,15 @@ goodFlags s empty =
 abbrev pub rule6At : Board → ℕ → Bool
 rule6At b k = goodFlags (task b k .stat) (emptyQueue b k)
 
--- ---- R7: the running task isn't due a message
+-- ---- R7: byte 1 is 0 exactly if no task is ready, and else names a ready task of the smallest ready priority number, with MHBS 0
 abbrev pub rule7 : Size → Board → Bool
-rule7 z b = not (has (task b (running z b) .stat) MHBS)
+rule7 z b = let c = b .running in cond (nobodyReady z b) (eqb c 0) (mayRun z b c && not (has (task b c .stat) MHBS))
 
 -- ---- all of them
+abbrev pub rules2to6 : Size → Board → Bool
+rules2to6 z b =
+    each (rule2At b) (z .tasks) && rule3 z b && each (rule4At z b) (z .messages) && each (rule5At z b) (z .tasks)
+    && each (rule6At b) (z .tasks)
+
 abbrev pub passes : Size → Board → Bool
-passes z b =
-    rule1 b && each (rule2At b) (z .tasks) && rule3 z b && each (rule4At z b) (z .messages) && each (rule5At z b) (z .tasks)
-    && each (rule6At b) (z .tasks) && rule7 z b
+passes z b = rule1 b && rules2to6 z b && rule7 z b

@@ -3,7 +3,7 @@
 use board::numbers::MsgNo;
 use board::numbers::TaskNo;
 
-// A broken rule, with the task or message that breaks it where the rule is one for each record.
+// A broken rule, with the task or message that breaks it where the rule is one for each record, and R7 with byte 1 as it is.
 pub enum Rule {
     R1,
     R2(TaskNo),
@@ -11,7 +11,7 @@ pub enum Rule {
     R4(MsgNo),
     R5(TaskNo),
     R6(TaskNo),
-    R7(TaskNo),
+    R7(u8),
 }
 
 pub enum Refusal {

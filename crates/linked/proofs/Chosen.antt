@@ -1,0 +1,132 @@
+-- Who runs: what R7's tests say, and that whoever is chosen after a call's effect runs rightly.
+-- Assumes nothing.
+use mathlib.Core.Path.{_≡_, refl, sym, ap, _∙_, subst}
+use mathlib.Core.Logic.{_≢_, Iff·rfl, Iff·trans}
+use mathlib.Core.Bool.{Bool, true, false, cond, not, _&&_, true≢false}
+use mathlib.Core.List.{List}
+use Prim.Native.Nat.{ℕ, _≤_, _<_}
+use native.Mathlib.Omega.{arith}
+use native.Mathlib.Decide.{ℕ-discrete}
+use lib.ListN.{length}
+use lib.Dec.{eqb, ltb}
+use borrow.Author.Tests.{eqb-true, eq-eqb, ltb-false, le-ltb}
+use Rattle.links.specs.Chain.{In}
+use Rattle.links.proofs.Bools.{refuted, and-true, cond-holds, each-all}
+use Rattle.links.proofs.Members.{not-in-out}
+use Rattle.board.specs.declared.numbers.Size.{Size}
+use Rattle.board.specs.Numbers.{Numbered}
+use Rattle.board.specs.Status.{MHBS, has}
+use Rattle.board.specs.Board.{Board, task}
+use Rattle.paper.specs.Rules.{present, nextTask, order, taskNumber, ready, nobodyReady, outranks, mayRun, firstReady, runsNext, rule7}
+use Rattle.linked.specs.Linked.{Listing}
+use Rattle.linked.specs.Sound.{Leads, RunsRightly}
+use Rattle.linked.proofs.Says.{Says, _&_, says-not, says-apart, says-each}
+use Rattle.linked.proofs.Running.{present-numbered, ready-says, first-with, first-none, first-least}
+
+-- one who leads may run
+pub leads-may : (z : Size) (b : Board) (c : ℕ) → Leads b c → mayRun z b c ≡ true
+leads-may z b c l =
+    and-true (ready b c) _ (l .awake)
+    (each-all _ (z .tasks) (λ k i j. says-apart .1 (λ e. le-ltb (taskNumber b k) (taskNumber b c) (l .smallest k e))))
+
+-- where as many are ready, with the same numbers, the same run rightly
+pub runs-alike : (b d : Board) (c : ℕ) → ((k : ℕ) → ready d k ≡ ready b k) → ((k : ℕ) → taskNumber d k ≡ taskNumber b k)
+    → RunsRightly b c → RunsRightly d c
+runs-alike b d c r n h = record {
+  nobody = ((λ e k. r k ∙ h .nobody .0 e k), λ f. h .nobody .1 (λ k. sym (r k) ∙ f k));
+  leads = λ e. let l = h .leads e in record {
+    awake = r c ∙ l .awake;
+    smallest = λ k f. subst (λ (x : ℕ). x ≤ taskNumber d k) (sym (n c))
+        (subst (λ (x : ℕ). taskNumber b c ≤ x) (sym (n k)) (l .smallest k (sym (r k) ∙ f)));
+  };
+}
+
+-- the board has as many tasks as its size says
+module _ (z : Size) (b : Board) (tasks : length (b .tasks) ≡ z .tasks) where
+  -- ---- what the tests say
+  -- a ready task is one of the board's
+  pub ready-numbered : (k : ℕ) → ready b k ≡ true → Numbered (z .tasks) k
+  ready-numbered k e = rw (← tasks) (present-numbered b k (ready-says b k e .0))
+
+  -- nobody is ready
+  pub says-nobodyReady : Says (nobodyReady z b) ((k : ℕ) → ready b k ≡ false)
+  says-nobodyReady =
+      Iff·trans (says-each (λ k. says-not))
+      ((λ h k. refuted (ready b k) (λ e. true≢false (sym e ∙ h k (ready-numbered k e)))), λ h k i. h k)
+
+  -- c is ready and nobody ready has a smaller number
+  pub says-mayRun : (c : ℕ) → Says (mayRun z b c) (Leads b c)
+  says-mayRun c = (
+    (λ e. let (r, h) = (Iff·rfl & says-each (λ k. says-apart)) .0 e in
+        record { awake = r; smallest = λ k i. ltb-false (taskNumber b k) (taskNumber b c) (h k (ready-numbered k i) i) }),
+    leads-may z b c,
+  )
+
+  -- one who leads is somebody
+  pub leads-somebody : (c : ℕ) → Leads b c → c ≢ 0
+  leads-somebody c l e = true≢false (sym (l .awake) ∙ ap (ready b) e)
+
+  pub leads-runs : (c : ℕ) → Leads b c → RunsRightly b c
+  leads-runs c l = record {
+    nobody = ((λ e. absurd (leads-somebody c l e)), λ h. absurd (true≢false (sym (l .awake) ∙ h c)));
+    leads = λ n. l;
+  }
+
+  pub says-rule7 : let c = b .running in Says (rule7 z b) (RunsRightly b c × (has (task b c .stat) MHBS ≡ false))
+  says-rule7 = step (nobodyReady z b) refl says-nobodyReady
+    where
+      c : ℕ
+      c = b .running
+
+      step : (t : Bool) → nobodyReady z b ≡ t → Says (nobodyReady z b) ((k : ℕ) → ready b k ≡ false)
+          → Says (cond t (eqb c 0) (mayRun z b c && not (has (task b c .stat) MHBS))) (RunsRightly b c × (has (task b c .stat) MHBS ≡ false))
+      step true e s = (
+        (λ d. let i = eqb-true c 0 d in
+            (record { nobody = ((λ j. s .0 e), λ j. i); leads = λ n. absurd (n i) }, ap (λ (k : ℕ). has (task b k .stat) MHBS) i)),
+        λ h. eq-eqb c 0 (h .0 .nobody .1 (s .0 e)),
+      )
+      step false e s =
+          Iff·trans (says-mayRun c & says-not)
+          ((λ (l, i). (leads-runs c l, i)), λ (h, i). (h .leads (λ j. true≢false (sym (s .1 (h .nobody .0 j)) ∙ e)), i))
+
+  -- ---- who is chosen, on a board whose links list its tasks in order
+  module _ (listed : Listing (nextTask b) (taskNumber b) (b .first) (order z b) (λ k. present b k ≡ true)) where
+    in-order : (k : ℕ) → ready b k ≡ true → In k (order z b)
+    in-order k e = listed .exact k .1 (ready-says b k e .0)
+
+    -- the first ready one
+    pub first-runs : RunsRightly b (firstReady z b)
+    first-runs = record {
+      nobody = (
+        (λ e k. refuted (ready b k) (λ h. true≢false (sym h
+            ∙ first-none (ready b) (order z b) (not-in-out 0 (order z b) (λ i. true≢false (sym (listed .exact 0 .0 i)))) e k (in-order k h)))),
+        λ h. none (ℕ-discrete (firstReady z b) 0) h,
+      );
+      leads = λ n. record {
+        awake = first-with (ready b) (order z b) n .1;
+        smallest = λ k e. first-least (ready b) (taskNumber b) (order z b) (listed .sorted) k (in-order k e) e;
+      };
+    }
+      where
+        none : Dec (firstReady z b ≡ 0) → ((k : ℕ) → ready b k ≡ false) → firstReady z b ≡ 0
+        none (yes e) h = e
+        none (no n) h = absurd (true≢false (sym (first-with (ready b) (order z b) n .1) ∙ h (firstReady z b)))
+
+    -- one that is ready, all others that are being behind it
+    pub first-only : (w : ℕ) → ready b w ≡ true → ((k : ℕ) → ready b k ≡ true → k ≢ w → taskNumber b w < taskNumber b k) → firstReady z b ≡ w
+    first-only w e h = step (ℕ-discrete (firstReady z b) w) (ℕ-discrete (firstReady z b) 0)
+      where
+        step : Dec (firstReady z b ≡ w) → Dec (firstReady z b ≡ 0) → firstReady z b ≡ w
+        step (yes i) d = i
+        step (no i) (yes j) = absurd (true≢false (sym e ∙ first-runs .nobody .0 j w))
+        step (no i) (no j) =
+            let l = first-runs .leads j in
+            let g = l .smallest w e in
+            let k = h (firstReady z b) (l .awake) i in
+            absurd (omega arith)
+
+    -- the task that ran, or the first ready one
+    pub next-runs : RunsRightly b (runsNext z b)
+    next-runs =
+        cond-holds (RunsRightly b) (mayRun z b (b .running)) (b .running) (firstReady z b) (λ e. leads-runs (b .running) (says-mayRun (b .running) .0 e))
+        (λ e. first-runs)

@@ -1,0 +1,42 @@
+-- Document 02, Ask 3: boards that were saved when bytes 1 to 3 were zero and the first ready task in queue order ran. The rules of that time,
+-- and the conversion of a board that keeps them. They stay as they are, whatever later requests make of the rules. A reader must believe
+-- this file.
+--   oldRule1 b         R1 over bytes 1 to 3; oldRule7 z b R7 of the task that ran then. R2 to R6 are those of today (Rules)
+--   oldPasses z b      all of them; oldBroken z b the lowest that is broken, and its record
+--   convert z l        byte 1 becomes the task that ran by the old rules, and nothing else; a board that breaks them is refused as it was
+-- Assumes nothing.
+use mathlib.Core.Bool.{Bool, not, _&&_}
+use mathlib.Core.List.{List, [], _∷_}
+use Prim.Native.Nat.{ℕ}
+use lib.Dec.{eqb}
+use Rattle.board.specs.declared.numbers.Size.{Size}
+use Rattle.board.specs.Status.{MHBS, has}
+use Rattle.board.specs.Board.{Board, boardOf, task}
+use Rattle.board.specs.Writes.{putRunning}
+use Rattle.paper.specs.declared.answer.Rule.{Rule}
+use Rattle.paper.specs.declared.answer.Rule.the-variants.{R1, R7}
+use Rattle.paper.specs.Rules.{firstReady, rule1, rules2to6}
+use Rattle.paper.specs.Named.{unless, brokenFrom2}
+use Rattle.paper.specs.Refusals.{Test, no1, no2By, lowest}
+use Rattle.paper.specs.Outcomes.{Outcome, judge, accepted}
+
+-- ---- the old rules
+abbrev pub oldRule1 : Board → Bool
+oldRule1 b = eqb (b .running) 0 && rule1 b
+
+abbrev pub oldRule7 : Size → Board → Bool
+oldRule7 z b = not (has (task b (firstReady z b) .stat) MHBS)
+
+abbrev pub oldPasses : Size → Board → Bool
+oldPasses z b = oldRule1 b && rules2to6 z b && oldRule7 z b
+
+abbrev pub oldBroken : Size → Board → Rule
+oldBroken z b = unless (oldRule1 b) R1 (brokenFrom2 z b (R7 (firstReady z b)))
+
+abbrev pub oldNo2 : Size → Board → Test
+oldNo2 z b = no2By (oldBroken z b) (oldPasses z b)
+
+-- ---- the conversion
+abbrev pub convert : Size → List ℕ → Outcome
+convert z l = let b = boardOf z l in let c = firstReady z b in
+    judge l (lowest (no1 z l ∷ oldNo2 z b ∷ [])) (accepted 0 c 0 (putRunning l c))
