@@ -60,7 +60,7 @@ pub fn claim(z: Size, l: &mut [u8], c: TaskMeant) -> Body
     put_place(z, l, m, Place::HeldBy(k));
     Body::Done {
         value: m.number(),
-        stirs: false,
+        stirred: TaskMeant::NoTask,
     }
 }
 
@@ -76,7 +76,7 @@ pub fn release(z: Size, l: &mut [u8], c: TaskMeant, m: u16) -> Body
             put_place(z, l, one, Place::Free);
             Body::Done {
                 value: 0,
-                stirs: false,
+                stirred: TaskMeant::NoTask,
             }
         }
     }
@@ -97,7 +97,7 @@ pub fn prepare(z: Size, l: &mut [u8], c: TaskMeant, m: u16, stat: u8, prio: u8, 
             put_message(z, l, one, u.with_stat(stat).with_prio(prio).with_sptr(sptr));
             Body::Done {
                 value: 0,
-                stirs: false,
+                stirred: TaskMeant::NoTask,
             }
         }
     }

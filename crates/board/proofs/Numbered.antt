@@ -16,6 +16,16 @@ module _ {A : Type 0} where
   nth-put none l zero x h e = absurd (omega arith)
   nth-put none l (suc i) x h e = getD-set-same l i x none (omega arith)
 
+  -- none written reads as none, whatever the number
+  pub nth-put-none : (none : A) (l : List A) (k : ℕ) → nth none (put l k none) k ≡ none
+  nth-put-none none l zero = refl
+  nth-put-none none l (suc i) = at l i
+    where
+      at : (l : List A) (i : ℕ) → getD (set l i none) i none ≡ none
+      at [] i = refl
+      at (x ∷ l) zero = refl
+      at (x ∷ l) (suc i) = at l i
+
   -- any other number reads as before
   pub nth-put-other : (none : A) (l : List A) (k j : ℕ) (x : A) → j ≢ k → nth none (put l k x) j ≡ nth none l j
   nth-put-other none l zero j x h = refl

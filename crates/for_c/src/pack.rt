@@ -46,7 +46,7 @@ pub fn rule_number(r: Rule) -> u8
     }
 }
 
-// The task or message that breaks it, 0 for R1 and R3.
+// The task or message that breaks it, 0 for R1 and R3, byte 1 for R7.
 pub fn record_number(r: Rule) -> u16
     ensures { λ res. ⌜ res ≡ recordNumber r ⌝ }
 {
@@ -57,7 +57,7 @@ pub fn record_number(r: Rule) -> u16
         Rule::R4(m) => m.number(),
         Rule::R5(k) => k.number(),
         Rule::R6(k) => k.number(),
-        Rule::R7(k) => k.number(),
+        Rule::R7(c) => c as u16,
     }
 }
 

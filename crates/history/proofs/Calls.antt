@@ -14,13 +14,12 @@ use Rattle.paper.specs.declared.call.Call.{Call}
 use Rattle.paper.specs.declared.call.Call.the-variants.{Install, PostInterrupt, Find, CancelTask, Claim, Prepare, Release}
 use Rattle.paper.specs.declared.call.Call.the-variants.{Send, SendAndWait, Resend, ResendAndWait, Forward, ForwardAndWait, Return, ReturnAndWait}
 use Rattle.paper.specs.declared.call.Call.the-variants.{Receive, ReceiveAndWait, CancelMessage, WaitForInterrupt}
-use Rattle.paper.specs.Rules.{running}
 use Rattle.paper.specs.Changes.{takeFirst}
 use Rattle.paper.specs.Effects.{waits}
 use Rattle.paper.specs.Refusals.{Test, no3, no4, no5, no6, no7, no10, no14, ownRow, Go, lowest}
 use Rattle.paper.specs.Outcomes.{Undispatched, undispatched, body}
-use Rattle.linked.proofs.Running.{runner-says}
-use Rattle.kept.specs.Settled.{Settled}
+use Rattle.linked.proofs.Running.{ready-says}
+use Rattle.kept.specs.Settled.{Settled, Awake}
 use Rattle.kept.specs.Touched.{touched, changed, orderAfter, queuesAfter}
 use Rattle.kept.specs.Claims.{Sizes}
 use Rattle.kept.proofs.Reading.{go-passed, runner-passed, held-row, task-passed, install-row, cancel-row, claim-row}
@@ -44,10 +43,9 @@ pub record Alike (z : Size) (tests : List Test) (d : Undispatched) (q : List ℕ
   pub value : lowest tests ≡ Go → d .value ≡ e .value
   pub same : lowest tests ≡ Go → Same z (d .board) q f (e .plain)
 
--- so it is with a call on a board that lists q and f before it
-abbrev pub CallAlike : Size → Board → List ℕ → (ℕ → List ℕ) → Call → Played → Type 0
-CallAlike z b q f call e =
-    let c = running z b in
+-- so it is with a call of task c on a board that lists q and f before it
+abbrev pub CallAlike : Size → Board → List ℕ → (ℕ → List ℕ) → ℕ → Call → Played → Type 0
+CallAlike z b q f c call e =
     let move = touched b c call .move in
     Alike z (ownRow z b c call) (body z b c call) (orderAfter b q move) (queuesAfter b f move) e
 
@@ -79,17 +77,14 @@ and-waits z b q f c tests e a h t = record {
 }
 
 module _ (z : Size) (b : Board) (q : List ℕ) (f : ℕ → List ℕ) (a : Sizes z) (h : Settled z b q f)
-    (l s : List Entry) (n : ℕ) (w : Named z (plainOf b l s n) q f) where
-  abbrev c : ℕ
-  c = running z b
-
+    (l s : List Entry) (n : ℕ) (w : Named z (plainOf b l s n) q f) (c : ℕ) (awake : Awake b c) where
   abbrev p : Plain
   p = plainOf b l s n
 
   -- ---- what a row says that refuses nothing
-  -- the running task is one of the board's
+  -- the task that calls is one of the board's
   runner-numbered : c ≢ 0 → Numbered (z .tasks) c
-  runner-numbered e = task-numbered z b q f h c (runner-says z b e .0)
+  runner-numbered e = task-numbered z b q f h c (ready-says b c (awake e) .0)
 
   -- 3 alone
   runner-alone : lowest (no3 c ∷ []) ≡ Go → Numbered (z .tasks) c
@@ -99,33 +94,33 @@ module _ (z : Size) (b : Board) (q : List ℕ) (f : ℕ → List ℕ) (a : Sizes
   sender-row : (m r : ℕ) (tests : List Test) → lowest (no3 c ∷ no4 z m ∷ no5 b c m ∷ no6 z b r ∷ tests) ≡ Go
       → (place b m ≡ HeldBy (taskNo c)) × Numbered (z .tasks) r × Numbered (z .tasks) c
   sender-row m r tests g =
-      let (runs, held, there, rest) = sender-passed z b q f a h m r tests g in
+      let (runs, held, there, rest) = sender-passed z b c m r tests g in
       (held, task-numbered z b q f h r there, runner-numbered runs)
 
   -- ---- messages placed
-  sends : (m r : ℕ) → CallAlike z b q f (Send m r) (plain.sends z p c m r)
+  sends : (m r : ℕ) → CallAlike z b q f c (Send m r) (plain.sends z p c m r)
   sends m r = record {
     verdict = rw (held-alike c (place b m));
     value = λ g. refl;
     same = λ g. let t = sender-row m r [] g in send-same z b q f a h l s n w c m r (t .0) (t .1);
   }
 
-  passes-on : (m r : ℕ) → CallAlike z b q f (Forward m r) (plain.passesOn z p c m r)
+  passes-on : (m r : ℕ) → CallAlike z b q f c (Forward m r) (plain.passesOn z p c m r)
   passes-on m r = record {
     verdict = rw (held-alike c (place b m));
     value = λ g. refl;
     same = λ g. let t = sender-row m r (no7 b m ∷ []) g in forward-same z b q f a h l s n w c m r (t .0) (t .1);
   }
 
-  sends-waits : (m r : ℕ) → CallAlike z b q f (SendAndWait m r) (plain.andWaits c (plain.sends z p c m r))
+  sends-waits : (m r : ℕ) → CallAlike z b q f c (SendAndWait m r) (plain.andWaits c (plain.sends z p c m r))
   sends-waits m r =
       and-waits z _ q _ c (ownRow z b c (Send m r)) (plain.sends z p c m r) a
-      (λ g. (send-settled z b q f a h m r g .0, sender-row m r [] g .2)) (sends m r)
+      (λ g. (send-settled z b q f a h c awake m r g .0, sender-row m r [] g .2)) (sends m r)
 
-  passes-on-waits : (m r : ℕ) → CallAlike z b q f (ForwardAndWait m r) (plain.andWaits c (plain.passesOn z p c m r))
+  passes-on-waits : (m r : ℕ) → CallAlike z b q f c (ForwardAndWait m r) (plain.andWaits c (plain.passesOn z p c m r))
   passes-on-waits m r =
       and-waits z _ q _ c (ownRow z b c (Forward m r)) (plain.passesOn z p c m r) a
-      (λ g. (forward-settled z b q f a h m r g .0, sender-row m r (no7 b m ∷ []) g .2)) (passes-on m r)
+      (λ g. (forward-settled z b q f a h c awake m r g .0, sender-row m r (no7 b m ∷ []) g .2)) (passes-on m r)
 
   -- ---- a task cancelled
   -- where 6 has passed, 10 is the same on the board and on the machine
@@ -136,7 +131,7 @@ module _ (z : Size) (b : Board) (q : List ℕ) (f : ℕ → List ℕ) (a : Sizes
       rw (first-mptr z b q f a h l s n w k (task-passed z b k u .0), asked-holds z b q f h l s n k)))
 
   -- ---- each call
-  pub calls-alike : (call : Call) → CallAlike z b q f call (plain.play z (plainOf b l s n) (running z b) call)
+  pub calls-alike : (call : Call) → CallAlike z b q f c call (plain.play z (plainOf b l s n) c call)
   calls-alike (Install k t prio sptr name) = record {
     verdict = refl;
     value = λ g. refl;

@@ -1,5 +1,6 @@
--- Demand 3 rejects a version that links the first message of a queue and only claims to link the rest: a worked case on a board of three
--- tasks and four messages. Assumes nothing.
+-- Worked cases on a board of three tasks and four messages: demand 3 rejects a version that links the first message of a queue and only claims
+-- to link the rest; and who runs on the plain machine, as document 02, Ask 3, has it.
+-- Assumes nothing.
 use mathlib.Core.Path.{_≡_, refl, sym, ap, _∙_, subst}
 use mathlib.Core.Logic.{inl, inr}
 use mathlib.Core.Bool.{true}
@@ -10,16 +11,19 @@ use lib.Dec.{lit≤}
 use Rattle.links.specs.Chain.{In, Chain}
 use Rattle.board.specs.Board.{boardOf, bytesOf}
 use Rattle.paper.specs.declared.call.Call.{Call}
-use Rattle.paper.specs.declared.call.Call.the-variants.{Install, Claim, Prepare, Send}
+use Rattle.paper.specs.declared.call.Call.the-variants.{Install, PostInterrupt, Claim, Prepare, Send, WaitForInterrupt}
+use Rattle.paper.specs.declared.answer.Answer.{Answer}
+use Rattle.paper.specs.declared.answer.Answer.the-variants.{Accepted}
 use Rattle.paper.specs.Rules.{nextMessage}
 use Rattle.paper.specs.Changes.{linkMessage}
 use Rattle.paper.specs.Outcomes.{blank}
 use Rattle.paper.specs.History.{run}
-use Rattle.paper.proofs.Slips.{tiny}
+use Rattle.paper.proofs.Slips.{tiny, ok}
 use Rattle.history.specs.Ranking.{Entry, Ranking}
 use Rattle.history.specs.Machine.{Plain, start}
 use Rattle.history.specs.Claims.{Agrees, past}
 
+-- ---- only the first linked
 -- task 1 sends itself messages 1 and 2, the first the more urgent
 abbrev calls : List Call
 calls =
@@ -53,3 +57,16 @@ case-only-the-first-linked h =
     let r = h .queues 1 (lit≤ tt, lit≤ tt) in
     let next : ℕ → ℕ = nextMessage (boardOf tiny onlyFirst) in
     alone next refl (r .names .list) (r .names .ranking) (subst (Chain next 1) (r .names .names) (r .chain))
+
+-- ---- who runs
+-- task 1 with this PRIO byte and then task 2 with 31H are installed; 1 waits for an interrupt, so 2 runs, and 1 is posted one
+abbrev posted : ℕ → List Answer
+posted prio = past tiny start (Install 1 0x01 prio 0 0 ∷ Install 2 0x01 0x31 0 0 ∷ WaitForInterrupt ∷ PostInterrupt 1 ∷ []) .answers
+
+-- of equals the one that runs goes on, though the other is the earlier installed
+case-equal-goes-on : posted 0x31 ≡ ok ∷ ok ∷ Accepted 0 2 0 ∷ Accepted 0 2 0 ∷ []
+case-equal-goes-on = refl
+
+-- one of a smaller number runs at once
+case-smaller-runs-at-once : posted 0x2F ≡ ok ∷ ok ∷ Accepted 0 2 0 ∷ Accepted 0 1 0 ∷ []
+case-smaller-runs-at-once = refl

@@ -1,33 +1,34 @@
--- Dispatch on a board that is settled and on its machine: the same task runs, and is handed the same message if it is due one.
+-- Dispatch on a board that is settled and on its machine: the same task runs next, and is handed the same message if it is due one.
 -- Assumes nothing.
 use mathlib.Core.Path.{_≡_, refl, sym, ap, _∙_}
-use mathlib.Core.Bool.{Bool, true, false, true≢false}
+use mathlib.Core.Bool.{Bool, true, false}
 use mathlib.Core.List.{List}
 use Prim.Native.Nat.{ℕ, zero, suc}
 use lib.ListN.{length}
-use borrow.Author.Tests.{ne-eqb}
 use Rattle.links.specs.Queue.{firstOf, restOf}
 use Rattle.board.specs.declared.numbers.Size.{Size}
 use Rattle.board.specs.Numbers.{Numbered}
 use Rattle.board.specs.Status.{MHBS, has}
-use Rattle.board.specs.Board.{Board, bytesOf, task}
+use Rattle.board.specs.Board.{Board, bytesOf, task, withRunning}
 use Rattle.paper.specs.declared.answer.Answer.the-variants.{Accepted}
-use Rattle.paper.specs.Rules.{present, queue, emptyQueue, running}
+use Rattle.paper.specs.Rules.{present, queue, runsNext}
 use Rattle.paper.specs.Changes.{clears, takeFirst}
 use Rattle.paper.specs.Refusals.{Test}
 use Rattle.paper.specs.Outcomes as paper
-use Rattle.linked.proofs.Running.{runner-says}
+use Rattle.linked.specs.Sound.{RunsRightly}
+use Rattle.linked.proofs.Chosen.{runs-alike}
 use Rattle.kept.specs.Settled.{Settled}
 use Rattle.kept.specs.Touched.{changed}
 use Rattle.kept.specs.Claims.{Sizes}
 use Rattle.kept.proofs.Waiting.{task-numbered}
 use Rattle.kept.proofs.Taking.{due-queued, deliver-settled}
+use Rattle.kept.proofs.Dispatching.{next-rightly, next-settled, due-there, dispatch-delivers}
 use Rattle.history.specs.Ranking.{Entry}
 use Rattle.history.specs.Machine as plain
 use Rattle.history.specs.Machine.{Plain, Result}
 use Rattle.history.proofs.Named.{Named, named-flagged}
 use Rattle.history.proofs.Machines.{plainOf, plain-clears, length-tasks}
-use Rattle.history.proofs.Asked.{asked-running, first-mptr, first-walked}
+use Rattle.history.proofs.Asked.{asked-next, first-mptr, first-walked}
 use Rattle.history.proofs.Same.{Same, same-at, same-holds}
 use Rattle.history.proofs.Taken.{take-same}
 
@@ -49,18 +50,17 @@ clears-same z b q f p c bit d t =
     same-holds z b q f p (λ (x : Plain). Same z (clears b c bit) q f (plain.clears x c bit)) t
     (λ l s n w. same-at l s n (plain-clears l s n b c d bit) (named-flagged z (plainOf b l s n) q f w c _))
 
+-- ---- to a task c that runs rightly
 module _ (z : Size) (b : Board) (q : List ℕ) (f : ℕ → List ℕ) (a : Sizes z) (h : Settled z b q f)
-    (l s : List Entry) (n : ℕ) (w : Named z (plainOf b l s n) q f) (bytes : List ℕ) (old : Plain) (tests : List Test) (v : ℕ) where
-  abbrev c : ℕ
-  c = running z b
-
+    (l s : List Entry) (n : ℕ) (w : Named z (plainOf b l s n) q f) (bytes : List ℕ) (old : Plain) (tests : List Test) (v c : ℕ)
+    (right : RunsRightly b c) where
   abbrev p : Plain
   p = plainOf b l s n
 
-  -- the running task is due a message
+  -- it is due a message
   module _ (due : has (task b c .stat) MHBS ≡ true) where
     runner : present b c ≡ true
-    runner = runner-says z b (λ e. true≢false (sym due ∙ ap (λ (k : ℕ). has (task b k .stat) MHBS) e)) .0
+    runner = due-there z b q f a h c right due
 
     numbered : Numbered (z .tasks) c
     numbered = task-numbered z b q f h c runner
@@ -87,22 +87,18 @@ module _ (z : Size) (b : Board) (q : List ℕ) (f : ℕ → List ℕ) (a : Sizes
           (take-same z b q f a h l s n w c numbered (suc m) e);
     }
 
-    -- 15 is not given
-    queued : emptyQueue b c ≡ false
-    queued = ne-eqb (task b c .mptr) 0 (due-queued z b q f a h c runner due)
-
+    -- so 15 is not given
     delivered : Dispatched z (paper.deliver z bytes (paper.undispatched v b) c) (plain.deliver old (plain.played tests v p) c (plain.first p c))
-    delivered = rw queued (delivers (plain.first p c) refl)
+    delivered = rw (dispatch-delivers z b q f a h c right due) (delivers (plain.first p c) refl)
 
   -- it is handed its first message, if it is due one
-  pub dispatch-alike : let p = plainOf b l s n in
-      Dispatched z (paper.dispatch z bytes (paper.undispatched v b)) (plain.dispatch old (plain.played tests v p))
-  dispatch-alike = step (has (task b c .stat) MHBS) refl
+  dispatched-to : Dispatched z (paper.dispatchTo z bytes (paper.undispatched v b) c) (plain.dispatchTo old (plain.played tests v p) c)
+  dispatched-to = step (has (task b c .stat) MHBS) refl
     where
       step : (t : Bool) → has (task b c .stat) MHBS ≡ t
-          → Dispatched z (paper.dispatch z bytes (paper.undispatched v b)) (plain.dispatch old (plain.played tests v p))
-      step true e = rw (asked-running z b q f a h l s n w, e) (delivered e)
-      step false e = rw (asked-running z b q f a h l s n w, e) (record {
+          → Dispatched z (paper.dispatchTo z bytes (paper.undispatched v b) c) (plain.dispatchTo old (plain.played tests v p) c)
+      step true e = rw e (delivered e)
+      step false e = rw e (record {
         answers = refl;
         board = b;
         order = q;
@@ -111,3 +107,22 @@ module _ (z : Size) (b : Board) (q : List ℕ) (f : ℕ → List ℕ) (a : Sizes
         settled = h;
         same = same-at l s n refl w;
       })
+
+-- ---- to the task that runs next
+module _ (z : Size) (b : Board) (q : List ℕ) (f : ℕ → List ℕ) (a : Sizes z) (h : Settled z b q f)
+    (l s : List Entry) (n : ℕ) (w : Named z (plainOf b l s n) q f) (bytes : List ℕ) (old : Plain) (tests : List Test) (v : ℕ) where
+  abbrev c : ℕ
+  c = runsNext z b
+
+  abbrev d : Board
+  d = withRunning b c
+
+  right : RunsRightly d c
+  right = runs-alike b d c (λ k. refl) (λ k. refl) (next-rightly z b q f a h)
+
+  -- the machine names it too; beyond that it is the machine of the board with it in byte 1
+  pub dispatch-alike : let p = plainOf b l s n in
+      Dispatched z (paper.dispatch z bytes (paper.undispatched v b)) (plain.dispatch old (plain.played tests v p))
+  dispatch-alike =
+      rw (asked-next z b q f a h l s n w)
+      (dispatched-to z d q f a (next-settled z b q f a h) l s n w bytes old tests v c right)

@@ -12,15 +12,15 @@ use Rattle.links.specs.Chain.{All}
 use Rattle.board.specs.declared.numbers.Size.{Size}
 use Rattle.board.specs.declared.records.Task.{Task}
 use Rattle.board.specs.declared.places.Place.the-variants as places
-use Rattle.board.specs.Status.{MHBS, has, stored}
+use Rattle.board.specs.Status.{MHBS, has, stored, isReady}
 use Rattle.board.specs.Records.{Byte, wordAt, taskOf, noTask, messageOf, noMessage}
 use Rattle.board.specs.Places.{placeOf, placeIn, isQueued}
 use Rattle.board.specs.Board.{Area, Board, taskArea, messageArea, placeArea, total, cut, pieces, boardOf, nth, task, message, place}
 use Rattle.board.specs.Claims.{Bytes}
 use Rattle.board.proofs.Numbered.{nth-map}
-use Rattle.paper.specs.Rules.{isThere, running}
+use Rattle.paper.specs.Rules.{isThere}
 use Rattle.paper.specs.Outcomes.{blank}
-use Rattle.linked.specs.Sound.{PlaceGood}
+use Rattle.linked.specs.Sound.{PlaceGood, RunsRightly}
 use Rattle.kept.specs.Settled.{Settled}
 use Rattle.kept.specs.Claims.{Sizes}
 use Rattle.kept.proofs.Flagging.{Flagged, flags-ready}
@@ -127,7 +127,6 @@ module _ (z : Size) where
   fresh-settled = record {
     fits = fits-board z (blank z) fresh-bytes;
     regular = record {
-      byte1 = zeros 1;
       zeros = zeros-all (b .zeros) (zeros-take 2 (drop 2 (blank z)) (zeros-drop 2 (blank z) zeros));
       records = λ k d. inl (fresh-task k);
       linked = record {
@@ -148,9 +147,16 @@ module _ (z : Size) where
         subst Flagged (sym (fresh-task k)) (flags-ready (stored 0) (0 ≡ 0) refl refl (λ e. absurd (true≢false (sym e))));
   }
 
+  -- nobody runs, for nobody is ready
+  fresh-runs : RunsRightly b (b .running)
+  fresh-runs = record {
+    nobody = ((λ e k. ap (λ (t : Task). isReady (t .stat)) (fresh-task k)), λ e. zeros 1);
+    leads = λ n. absurd (n (zeros 1));
+  }
+
   fresh-plain : plainOf b [] [] 0 ≡ start
   fresh-plain = λ i.
-      machine (λ k. sheetOf (fresh-task k i)) (λ m. blockOf (fresh-message m i)) (λ m. whoseOf (fresh-place m i)) [] [] 0
+      machine (λ k. sheetOf (fresh-task k i)) (λ m. blockOf (fresh-message m i)) (λ m. whoseOf (fresh-place m i)) [] [] 0 (zeros 1 i)
 
   -- none is installed or placed
   no-names : Names [] []
@@ -173,8 +179,8 @@ module _ (z : Size) where
   pub fresh-agrees : Sizes z → Agreeing z (blank z) start
   fresh-agrees a = record {
     bytes = fresh-bytes;
-    sound = settled-passes z b a (fresh-settled .fits) [] (λ k. []) fresh-settled
-        (ap (λ (t : Task). has (t .stat) MHBS) (fresh-task (running z b)));
+    sound = settled-passes z b a (fresh-settled .fits) [] (λ k. []) fresh-settled fresh-runs
+        (ap (λ (t : Task). has (t .stat) MHBS) (fresh-task (b .running)));
     order = [];
     queues = λ k. [];
     settled = fresh-settled;

@@ -33,7 +33,7 @@ use Rattle.history.proofs.Named.{laid}
 -- ---- the machine of a board
 -- with the entries l and s, at the time n
 abbrev pub plainOf : Board → List Entry → List Entry → ℕ → Plain
-plainOf b l s n = machine (λ k. sheetOf (task b k)) (λ m. blockOf (message b m)) (λ m. whoseOf (place b m)) l s n
+plainOf b l s n = machine (λ k. sheetOf (task b k)) (λ m. blockOf (message b m)) (λ m. whoseOf (place b m)) l s n (b .running)
 
 -- a record written is its value changed
 upd-put : {A B : Type 0} (f : A → B) (none : A) (r : List A) (k : ℕ) (x : A) → Numbered (length r) k
@@ -50,34 +50,34 @@ module _ (l s : List Entry) (n : ℕ) where
   plain-task : (b : Board) (k : ℕ) (t : Task) → Numbered (length (b .tasks)) k
       → withSheet (plainOf b l s n) k (sheetOf t) ≡ plainOf (withTask b k t) l s n
   plain-task b k t h =
-      ap (λ (g : ℕ → Sheet). let p = plainOf b l s n in machine g (p .blocks) (p .whose) l s n)
+      ap (λ (g : ℕ → Sheet). let p = plainOf b l s n in machine g (p .blocks) (p .whose) l s n (b .running))
       (upd-put sheetOf noTask (b .tasks) k t h)
 
   -- a message
   pub plain-message : (b : Board) (m : ℕ) (u : Message) → Numbered (length (b .messages)) m
       → withBlock (plainOf b l s n) m (blockOf u) ≡ plainOf (withMessage b m u) l s n
   plain-message b m u h =
-      ap (λ (g : ℕ → Block). let p = plainOf b l s n in machine (p .sheets) g (p .whose) l s n)
+      ap (λ (g : ℕ → Block). let p = plainOf b l s n in machine (p .sheets) g (p .whose) l s n (b .running))
       (upd-put blockOf noMessage (b .messages) m u h)
 
   -- a place
   pub plain-place : (b : Board) (m : ℕ) (x : Place) → Numbered (length (b .places)) m
       → withWhose (plainOf b l s n) m (whoseOf x) ≡ plainOf (withPlace b m x) l s n
   plain-place b m x h =
-      ap (λ (g : ℕ → Whose). let p = plainOf b l s n in machine (p .sheets) (p .blocks) g l s n)
+      ap (λ (g : ℕ → Whose). let p = plainOf b l s n in machine (p .sheets) (p .blocks) g l s n (b .running))
       (upd-put whoseOf places.Free (b .places) m x h)
 
   -- ---- links written: the machine has none
   plain-task-alike : (b : Board) (k : ℕ) (t : Task) → sheetOf t ≡ sheetOf (task b k)
       → plainOf (withTask b k t) l s n ≡ plainOf b l s n
   plain-task-alike b k t e =
-      ap (λ (g : ℕ → Sheet). let p = plainOf b l s n in machine g (p .blocks) (p .whose) l s n)
+      ap (λ (g : ℕ → Sheet). let p = plainOf b l s n in machine g (p .blocks) (p .whose) l s n (b .running))
       (fun-ext (λ j. nth-alike sheetOf noTask (b .tasks) k j t e))
 
   plain-message-alike : (b : Board) (m : ℕ) (u : Message) → blockOf u ≡ blockOf (message b m)
       → plainOf (withMessage b m u) l s n ≡ plainOf b l s n
   plain-message-alike b m u e =
-      ap (λ (g : ℕ → Block). let p = plainOf b l s n in machine (p .sheets) g (p .whose) l s n)
+      ap (λ (g : ℕ → Block). let p = plainOf b l s n in machine (p .sheets) g (p .whose) l s n (b .running))
       (fun-ext (λ j. nth-alike blockOf noMessage (b .messages) m j u e))
 
   -- the queue of a task

@@ -99,7 +99,7 @@ module _ (z : Size) (p : Plain) (q : List ℕ) (f : ℕ → List ℕ) (h : Named
 
 -- ---- a message placed
 abbrev withSheets : Plain → (ℕ → Sheet) → Plain
-withSheets p g = machine g (p .blocks) (p .whose) (p .installs) (p .placements) (p .clock)
+withSheets p g = machine g (p .blocks) (p .whose) (p .installs) (p .placements) (p .clock) (p .running)
 
 -- it lies there and r isn't woken yet: where there are no tasks a placement wakes nobody
 abbrev pub laid : Plain → ℕ → ℕ → Plain

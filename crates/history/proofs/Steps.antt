@@ -9,21 +9,21 @@ use Rattle.board.specs.declared.numbers.Size.{Size}
 use Rattle.board.specs.Board.{Board, total, boardOf}
 use Rattle.board.specs.Claims.{Bytes}
 use Rattle.paper.specs.declared.call.Call.{Call}
-use Rattle.paper.specs.Rules.{running, passes}
+use Rattle.paper.specs.Rules.{passes}
 use Rattle.paper.proofs.Rows.{row-own}
 use Rattle.paper.specs.Refusals.{ownRow, Verdict, Go, Stop, lowest}
 use Rattle.paper.specs.Outcomes as paper
-use Rattle.kept.specs.Settled.{Settled, Fitting}
+use Rattle.linked.specs.Sound.{Sound}
+use Rattle.kept.specs.Settled.{Settled, Awake, Fitting}
 use Rattle.kept.specs.Claims.{Sizes}
 use Rattle.kept.proofs.Fitting.{board-bytes}
-use Rattle.kept.proofs.Theorems.{passing-sound, sound-runner, passing-stays-passing}
+use Rattle.kept.proofs.Theorems.{passing-sound, sound-awake, passing-stays-passing}
 use Rattle.kept.proofs.Bodies.{body-settles}
 use Rattle.history.specs.Ranking.{Entry}
 use Rattle.history.specs.Machine as plain
 use Rattle.history.specs.Machine.{Plain, Played, Result}
 use Rattle.history.proofs.Named.{Named}
 use Rattle.history.proofs.Machines.{plainOf}
-use Rattle.history.proofs.Asked.{asked-running}
 use Rattle.history.proofs.Same.{Same, same-at, same-holds}
 use Rattle.history.proofs.Calls.{CallAlike, calls-alike}
 use Rattle.history.proofs.Dispatch.{Dispatched, dispatch-alike}
@@ -64,7 +64,7 @@ module _ (z : Size) (a : Sizes z) (bytes : List ℕ) (call : Call) (fits : Fitti
   b = boardOf z bytes
 
   abbrev c : ℕ
-  c = running z b
+  c = b .running
 
   abbrev p : Plain
   p = plainOf b l s n
@@ -75,17 +75,24 @@ module _ (z : Size) (a : Sizes z) (bytes : List ℕ) (call : Call) (fits : Fitti
   abbrev e : Played
   e = plain.play z p c call
 
-  alike : CallAlike z b q f call e
-  alike = calls-alike z b q f a h l s n w call
+  good : Sound z b
+  good = passing-sound z b a (h .fits) sound
+
+  -- whoever runs is ready
+  awake : Awake b c
+  awake = sound-awake z b a (h .fits) good
+
+  alike : CallAlike z b q f c call e
+  alike = calls-alike z b q f a h l s n w c awake call
 
   -- the body, and then dispatch
   went : lowest (ownRow z b c call) ≡ Go → Ended z (paper.dispatch z bytes d) (plain.dispatch p e)
   went g =
-      let r = sound-runner z b a (h .fits) (passing-sound z b a (h .fits) sound) in
+      let k = body-settles z b q f c call a fits h awake (good .idle) g in
       let to : ℕ → Plain → Type 0 = λ v x. Dispatched z (paper.dispatch z bytes d) (plain.dispatch p (plain.played (e .refusals) v x)) in
       dispatched-ends z _ _ (subst (λ (v : ℕ). to v (e .plain)) (alike .value g)
       (same-holds z (d .board) _ _ (e .plain) (to (d .value)) (alike .same g)
-      (λ l s n w. dispatch-alike z (d .board) _ _ a (body-settles z b q f call a fits h r g) l s n w bytes p (e .refusals) (d .value))))
+      (λ l s n w. dispatch-alike z (d .board) _ _ a k l s n w bytes p (e .refusals) (d .value))))
 
   -- whatever its row gives
   judged-ends : (v : Verdict) → lowest (ownRow z b c call) ≡ v
@@ -99,12 +106,9 @@ module _ (z : Size) (a : Sizes z) (bytes : List ℕ) (call : Call) (fits : Fitti
     same = same-at l s n refl w;
   }
 
-  -- the machine finds the same refusals, and the same task running
+  -- the machine finds the same refusals
   step-judged : plain.judged p (lowest (ownRow z b c call)) (plain.dispatch p e) ≡ plain.step z p call
-  step-judged =
-      ap (λ (v : Verdict). plain.judged p v (plain.dispatch p e)) (sym (alike .verdict))
-      ∙ ap (λ (k : ℕ). let o = plain.play z p k call in plain.judged p (lowest (o .refusals)) (plain.dispatch p o))
-      (sym (asked-running z b q f a h l s n w))
+  step-judged = ap (λ (v : Verdict). plain.judged p v (plain.dispatch p e)) (sym (alike .verdict))
 
   effect-ends : Ended z (paper.effect z bytes call) (plain.step z (plainOf (boardOf z bytes) l s n) call)
   effect-ends =

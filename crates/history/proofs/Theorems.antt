@@ -1,6 +1,6 @@
 -- The claim LinksAgree of specs/Claims, proved: the links agree with the history.
 -- Assumes nothing.
-use mathlib.Core.Path.{_≡_, refl, sym, ap₂}
+use mathlib.Core.Path.{_≡_, refl, ap₂}
 use mathlib.Core.List.{List, [], _∷_}
 use Prim.Native.Nat.{ℕ}
 use Rattle.board.specs.declared.numbers.Size.{Size}
@@ -12,15 +12,15 @@ use Rattle.kept.specs.Settled.{AllFit}
 use Rattle.kept.specs.Claims.{Sizes}
 use Rattle.history.specs.Machine.{Plain, start, step}
 use Rattle.history.specs.Claims.{Agrees, past, LinksAgree}
-use Rattle.history.proofs.Asked.{asked-running, is-where}
+use Rattle.history.proofs.Asked.{is-where}
 use Rattle.history.proofs.Same.{same-holds}
 use Rattle.history.proofs.Steps.{Agreeing, call-agrees}
 use Rattle.history.proofs.Fresh.{fresh-agrees}
 
 -- ---- what the bytes show
 -- bytes that agree with the machine call by call agree with it in all that is seen
-agreeing-agrees : (z : Size) → Sizes z → (l : List ℕ) (p : Plain) → Agreeing z l p → Agrees z l p
-agreeing-agrees z a l p t =
+agreeing-agrees : (z : Size) (l : List ℕ) (p : Plain) → Agreeing z l p → Agrees z l p
+agreeing-agrees z l p t =
     let b : Board = boardOf z l in
     let q = t .order in
     let f = t .queues in
@@ -33,7 +33,7 @@ agreeing-agrees z a l p t =
       times = (w .tasks .times, w .messages .times);
       order = record { numbers = q; names = w .order; chain = linked .tasks .chain };
       queues = λ k d. record { numbers = f k; names = w .queues k d; chain = linked .messages k d .chain };
-      runs = sym (asked-running z b q f a (t .settled) i s n w);
+      runs = refl;
     })
 
 -- ---- histories
@@ -51,4 +51,4 @@ history-agrees z a (call ∷ calls) l p w t =
 pub links-agree : LinksAgree
 links-agree z a calls w =
     let r = history-agrees z a calls _ start w (fresh-agrees z a) in
-    (r .0, agreeing-agrees z a _ _ (r .1))
+    (r .0, agreeing-agrees z _ _ (r .1))

@@ -2,7 +2,7 @@
 --   OneRanking           of entries made at different times exactly one list is the ranking
 --   LinksRank next x l   the links from x are exactly the ranking of the entries l, and then 0
 --   Agrees z l p         the bytes l and the plain machine p agree: the board passes, the links from byte 0 and from each MPTR are the
---                        rankings, every other field is the machine's, and the running task is the machine's
+--                        rankings, every other field is the machine's, and byte 1 is the machine's running task
 --   past z p calls       the machine after these calls, and its answers
 --   LinksAgree           whatever calls are made from the fresh board, all answers agree, one by one, and afterwards the bytes agree
 --   Made l calls as d    a program was handed the answers as for these calls and left d of l, each call as the contract of the step says
@@ -25,13 +25,12 @@ use Rattle.board.specs.Board.{boardOf, total, task, message, place}
 use Rattle.paper.specs.declared.call.Call.{Call}
 use Rattle.paper.specs.declared.answer.Answer.{Answer}
 use Rattle.paper.specs.Rules.{nextTask, nextMessage, passes}
-use Rattle.paper.specs.Rules as rules
 use Rattle.paper.specs.Outcomes.{blank, Ends, effect, fresh}
 use Rattle.paper.specs.History as bytes
 use Rattle.kept.specs.Settled.{AllFit}
 use Rattle.kept.specs.Claims.{Sizes}
 use Rattle.history.specs.Ranking.{Entry, keep, Ranking, DifferentTimes, Names}
-use Rattle.history.specs.Machine.{Sheet, Block, Whose, Free, Held, Queued, Plain, start, step, running}
+use Rattle.history.specs.Machine.{Sheet, Block, Whose, Free, Held, Queued, Plain, start, step}
 
 -- ---- the ranking is one
 pub record Ranked (l : List Entry) : Type 0 where
@@ -69,7 +68,7 @@ pub record Agrees (z : Size) (l : List ℕ) (p : Plain) : Type 0 where
   pub order : LinksRank (nextTask (boardOf z l)) (boardOf z l .first) (p .installs)
   pub queues : (k : ℕ) → Numbered (z .tasks) k
       → LinksRank (nextMessage (boardOf z l)) (task (boardOf z l) k .mptr) (keep (λ e. eqb (e .at) k) (p .placements))
-  pub runs : rules.running z (boardOf z l) ≡ running p
+  pub runs : boardOf z l .running ≡ p .running
 
 -- ---- histories
 pub record Past : Type 0 where

@@ -1,14 +1,15 @@
--- The plain machine of demand 3: the station without links. It keeps the other fields of tasks and messages, who holds what, and the order of
--- installs and placements, each with its priority and queue type; no link, no head of a queue, no insertion, no walk. A reader must believe
--- this file, and can read it beside document 01: STAT bits are named as there, number and fifo read a PRIO byte, withFifo sets its bit 0. The
--- refusals that look at arguments alone are paper's (Refusals), as is lowest: of the tests of a row the lowest that applies is given.
+-- The plain machine of demand 3: the station without links. It keeps the other fields of tasks and messages, who holds what, the order of
+-- installs and placements, each with its priority and queue type, and who runs (document 02, Ask 3); no link, no head of a queue, no
+-- insertion, no walk. A reader must believe this file, and can read it beside document 01: STAT bits are named as there, number and fifo read
+-- a PRIO byte, withFifo sets its bit 0. The refusals that look at arguments alone are paper's (Refusals), as is lowest: of the tests of a row
+-- the lowest that applies is given.
 --   play z p c call   the call's row, c running: its refusals, its value, and the machine before dispatch
 --   step z p call     the answer of a call, and the machine afterwards; z has the numbers of tasks and messages
 -- Assumes nothing.
 use mathlib.Core.Bool.{Bool, true, false, cond, not, _&&_, _||_}
 use mathlib.Core.List.{List, [], _∷_, _++_}
 use Prim.Native.Nat.{ℕ, zero, suc, _+_, _*_, _%_}
-use lib.Dec.{eqb}
+use lib.Dec.{eqb, ltb}
 use Rattle.board.specs.declared.numbers.Size.{Size}
 use Rattle.board.specs.declared.status.Status.{Status}
 use Rattle.board.specs.Numbers.{outside}
@@ -49,6 +50,7 @@ pub record Plain : Type 0 where
   pub installs : List Entry
   pub placements : List Entry
   pub clock : ℕ  -- how many installs and placements there were
+  pub running : ℕ  -- who runs, 0 if nobody
 
 abbrev pub noSheet : Sheet
 noSheet = record { stat = stored 0; prio = 0; sptr = 0; name = 0 }
@@ -56,33 +58,36 @@ noSheet = record { stat = stored 0; prio = 0; sptr = 0; name = 0 }
 abbrev pub noBlock : Block
 noBlock = record { stat = 0; prio = 0; rptr = 0; sptr = 0 }
 
-abbrev pub machine : (ℕ → Sheet) → (ℕ → Block) → (ℕ → Whose) → List Entry → List Entry → ℕ → Plain
-machine t u w i l n = record { sheets = t; blocks = u; whose = w; installs = i; placements = l; clock = n }
+abbrev pub machine : (ℕ → Sheet) → (ℕ → Block) → (ℕ → Whose) → List Entry → List Entry → ℕ → ℕ → Plain
+machine t u w i l n c = record { sheets = t; blocks = u; whose = w; installs = i; placements = l; clock = n; running = c }
 
 abbrev pub start : Plain
-start = machine (λ k. noSheet) (λ m. noBlock) (λ m. Free) [] [] 0
+start = machine (λ k. noSheet) (λ m. noBlock) (λ m. Free) [] [] 0 0
 
 -- ---- one thing changed, in one field
 abbrev pub upd : {A : Type 0} → (ℕ → A) → ℕ → A → ℕ → A
 upd f k x j = cond (eqb j k) x (f j)
 
 abbrev pub withSheet : Plain → ℕ → Sheet → Plain
-withSheet p k t = machine (upd (p .sheets) k t) (p .blocks) (p .whose) (p .installs) (p .placements) (p .clock)
+withSheet p k t = machine (upd (p .sheets) k t) (p .blocks) (p .whose) (p .installs) (p .placements) (p .clock) (p .running)
 
 abbrev pub withBlock : Plain → ℕ → Block → Plain
-withBlock p m u = machine (p .sheets) (upd (p .blocks) m u) (p .whose) (p .installs) (p .placements) (p .clock)
+withBlock p m u = machine (p .sheets) (upd (p .blocks) m u) (p .whose) (p .installs) (p .placements) (p .clock) (p .running)
 
 abbrev pub withWhose : Plain → ℕ → Whose → Plain
-withWhose p m w = machine (p .sheets) (p .blocks) (upd (p .whose) m w) (p .installs) (p .placements) (p .clock)
+withWhose p m w = machine (p .sheets) (p .blocks) (upd (p .whose) m w) (p .installs) (p .placements) (p .clock) (p .running)
 
 abbrev pub withInstalls : Plain → List Entry → Plain
-withInstalls p l = machine (p .sheets) (p .blocks) (p .whose) l (p .placements) (p .clock)
+withInstalls p l = machine (p .sheets) (p .blocks) (p .whose) l (p .placements) (p .clock) (p .running)
 
 abbrev pub withPlacements : Plain → List Entry → Plain
-withPlacements p l = machine (p .sheets) (p .blocks) (p .whose) (p .installs) l (p .clock)
+withPlacements p l = machine (p .sheets) (p .blocks) (p .whose) (p .installs) l (p .clock) (p .running)
 
 abbrev pub tick : Plain → Plain
-tick p = machine (p .sheets) (p .blocks) (p .whose) (p .installs) (p .placements) (suc (p .clock))
+tick p = machine (p .sheets) (p .blocks) (p .whose) (p .installs) (p .placements) (suc (p .clock)) (p .running)
+
+abbrev pub withRunning : Plain → ℕ → Plain
+withRunning p c = machine (p .sheets) (p .blocks) (p .whose) (p .installs) (p .placements) (p .clock) c
 
 abbrev pub flagged : Plain → ℕ → Status → Plain
 flagged p k s = let t = p .sheets k in withSheet p k (record { stat = s; prio = t .prio; sptr = t .sptr; name = t .name })
@@ -100,9 +105,13 @@ present p k = has (p .sheets k .stat) TCBB
 abbrev pub ready : Plain → ℕ → Bool
 ready p k = present p k && not (has (p .sheets k .stat) WAIT) && not (has (p .sheets k .stat) IWAT)
 
--- the running task is the foremost ready one of those installed
-abbrev pub running : Plain → ℕ
-running p = foremost (λ e. ready p (e .id)) (p .installs)
+-- a ready task of those installed has a smaller priority number than c
+abbrev pub outranked : Plain → ℕ → Bool
+outranked p c = not (eqb (foremost (λ e. ready p (e .id) && ltb (e .number) (number (p .sheets c .prio))) (p .installs)) 0)
+
+-- who ran stays if it is ready and not outranked; else it is the foremost ready one of those installed, 0 if none
+abbrev pub runsNext : Plain → ℕ
+runsNext p = cond (ready p (p .running) && not (outranked p (p .running))) (p .running) (foremost (λ e. ready p (e .id)) (p .installs))
 
 -- the first message of task k is the foremost of those placed there
 abbrev pub first : Plain → ℕ → ℕ
@@ -263,7 +272,7 @@ play z p c ReceiveAndWait = played (no3 c ∷ []) 0 (waits c p)
 play z p c (CancelMessage m r) = played (no3 c ∷ no4 z m ∷ no6 z p r ∷ no12 p m r ∷ no13 p c m ∷ []) 0 (cancelMessage p c m r)
 play z p c WaitForInterrupt = played (no3 c ∷ []) 0 (waitInterrupt p c)
 
--- ---- dispatch: a running task that is due a message is handed its first one
+-- ---- dispatch: who runs is settled, and is handed its first message if it is due one
 pub record Result : Type 0 where
   pub answer : Answer
   pub plain : Plain
@@ -278,9 +287,11 @@ abbrev pub deliver : Plain → Played → ℕ → ℕ → Result
 deliver p d c zero = refused p NothingToDeliver
 deliver p d c (suc m) = accepted (d .value) c (suc m) (clears (take (d .plain) c (suc m)) c MHBS)
 
+abbrev pub dispatchTo : Plain → Played → ℕ → Result
+dispatchTo p d c = cond (has (d .plain .sheets c .stat) MHBS) (deliver p d c (first (d .plain) c)) (accepted (d .value) c 0 (d .plain))
+
 abbrev pub dispatch : Plain → Played → Result
-dispatch p d = let c = running (d .plain) in
-    cond (has (d .plain .sheets c .stat) MHBS) (deliver p d c (first (d .plain) c)) (accepted (d .value) c 0 (d .plain))
+dispatch p d = let c = runsNext (d .plain) in dispatchTo p (played (d .refusals) (d .value) (withRunning (d .plain) c)) c
 
 -- ---- a call
 abbrev pub judged : Plain → Verdict → Result → Result
@@ -288,4 +299,4 @@ judged p Go o = o
 judged p (Stop q) o = refused p q
 
 abbrev pub step : Size → Plain → Call → Result
-step z p call = let d = play z p (running p) call in judged p (lowest (d .refusals)) (dispatch p d)
+step z p call = let d = play z p (p .running) call in judged p (lowest (d .refusals)) (dispatch p d)

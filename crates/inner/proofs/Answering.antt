@@ -17,29 +17,29 @@ use Rattle.board.specs.Places.{isHeldBy}
 use Rattle.board.specs.Board.{Board, boardOf, task, place}
 use Rattle.board.proofs.Meant.{taskMeant-task, taskMeant-none, messageMeant-message, messageMeant-none}
 use Rattle.paper.specs.declared.answer.Refusal.the-variants.{NobodyRuns, NoSuchMessage, NotHeld}
-use Rattle.paper.specs.Rules.{present, isThere, running}
+use Rattle.paper.specs.Rules.{present, isThere}
 use Rattle.paper.specs.Refusals.{no3, no4, no5, Verdict, lowest}
 use Rattle.stores.specs.declared.Held.the-variants as held
-use Rattle.stores.specs.Answers.{heldBy, heldOf, presentMeant}
+use Rattle.stores.specs.Answers.{Runner, heldBy, heldOf, presentMeant}
 use Rattle.paper.proofs.Rows.{lowest-stop, lowest-on}
 use Rattle.inner.proofs.Rows.{nobody-runs, one-runs}
 
 -- ---- the running task and its message: x is who runs
-module _ (z : Size) (l : List ℕ) (w : ℕ) {x : TaskMeant} (d : x ≡ taskMeant z (running z (boardOf z l))) where
+module _ (z : Size) (l : List ℕ) (w : ℕ) {x : TaskMeant} (d : Runner z l x) where
   abbrev b : Board
   b = boardOf z l
 
   abbrev c : ℕ
-  c = running z b
+  c = b .running
 
   -- 3: nobody
   pub held-nobody : x ≡ NoTask → held.Not NobodyRuns ≡ heldOf z b c w
-  held-nobody e = ap (λ (v : Verdict). heldBy v c w) (sym (lowest-stop (no3 c) (no4 z w ∷ no5 b c w ∷ []) (nobody-runs z l (sym d ∙ e))))
+  held-nobody e = ap (λ (v : Verdict). heldBy v c w) (sym (lowest-stop (no3 c) (no4 z w ∷ no5 b c w ∷ []) (nobody-runs z l d e)))
 
   -- k does, and y is the message that w means
   module _ {k : TaskNo} (e : x ≡ Task k) {y : MessageMeant} (f : y ≡ messageMeant z w) where
     runner : (no3 c .applies ≡ false) × (k ≡ taskNo c)
-    runner = one-runs z l k (sym d ∙ e)
+    runner = one-runs z l d e
 
     runs : lowest (no3 c ∷ no4 z w ∷ no5 b c w ∷ []) ≡ lowest (no4 z w ∷ no5 b c w ∷ [])
     runs = lowest-on (no3 c) (no4 z w ∷ no5 b c w ∷ []) (runner .0)

@@ -1,4 +1,3 @@
-pub mod Runner
 pub mod Rows
 pub mod Answering
 pub mod Steps

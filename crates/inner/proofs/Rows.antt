@@ -1,27 +1,24 @@
 -- A row of refusals, test by test: what the answers of inner steps say of the verdict. Assumes nothing.
 use mathlib.Core.Path.{_≡_, refl, sym, ap, _∙_}
-use mathlib.Core.Logic.{_≢_}
-use mathlib.Core.Bool.{Bool, true, false, cond, not, _||_, true≢false}
+use mathlib.Core.Bool.{Bool, true, false, cond, not, _||_}
 use mathlib.Core.List.{List, [], _∷_, _++_}
 use Prim.Native.Nat.{ℕ}
 use native.Mathlib.Omega.{arith}
-use native.Mathlib.Decide.{ℕ-discrete}
-use lib.Dec.{eqb}
 use borrow.Author.Tests.{eq-eqb, ne-eqb}
 use Rattle.board.specs.declared.numbers.Size.{Size}
 use Rattle.board.specs.declared.numbers.TaskNo.{TaskNo}
 use Rattle.board.specs.declared.numbers.MsgNo.{MsgNo}
+use Rattle.board.specs.declared.numbers.TaskMeant.{TaskMeant}
 use Rattle.board.specs.declared.numbers.TaskMeant.the-variants.{Task, NoTask}
-use Rattle.board.specs.Numbers.{outside, taskNo, taskMeant}
+use Rattle.board.specs.Numbers.{outside, taskNo, numberOfTask}
 use Rattle.board.specs.Board.{Board, boardOf}
 use Rattle.board.proofs.Pieces.{outside-within}
-use Rattle.board.proofs.Meant.{taskMeant-task, taskMeant-none}
+use Rattle.board.proofs.Meant.{taskMeant-task}
 use Rattle.paper.specs.declared.answer.Refusal.{Refusal}
-use Rattle.paper.specs.Rules.{present, running}
+use Rattle.paper.specs.Rules.{present}
 use Rattle.paper.specs.Refusals.{Test, no3, no4, no5, no6, Verdict, Go, Stop, lowest}
 use Rattle.stores.specs.declared.Held.the-variants as held
-use Rattle.stores.specs.Answers.{heldBy, heldOf, presentMeant}
-use Rattle.inner.proofs.Runner.{runner-within}
+use Rattle.stores.specs.Answers.{Runner, heldBy, heldOf, presentMeant}
 
 -- ---- several
 abbrev orElse : Verdict → Verdict → Verdict
@@ -39,23 +36,16 @@ lowest-append (t ∷ a) b = go (t .applies) (lowest-append a b)
 
 -- ---- who runs
 -- nobody runs: 3 applies
-pub nobody-runs : (z : Size) (l : List ℕ) → taskMeant z (running z (boardOf z l)) ≡ NoTask → no3 (running z (boardOf z l)) .applies ≡ true
-nobody-runs z l e = go (ℕ-discrete r 0)
-  where
-    r : ℕ
-    r = running z (boardOf z l)
-
-    go : Dec (r ≡ 0) → eqb r 0 ≡ true
-    go (yes q) = eq-eqb r 0 q
-    go (no n) = absurd (true≢false (sym (taskMeant-none z r e) ∙ runner-within z l n))
+pub nobody-runs : (z : Size) (l : List ℕ) {x : TaskMeant} → Runner z l x → x ≡ NoTask → no3 (boardOf z l .running) .applies ≡ true
+nobody-runs z l r e = eq-eqb (boardOf z l .running) 0 (sym (r .1) ∙ ap numberOfTask e)
 
 -- one does: 3 does not apply, and it is that one
-pub one-runs : (z : Size) (l : List ℕ) (c : TaskNo) → taskMeant z (running z (boardOf z l)) ≡ Task c
-    → (no3 (running z (boardOf z l)) .applies ≡ false) × (c ≡ taskNo (running z (boardOf z l)))
-one-runs z l c e =
-    let r : ℕ = running z (boardOf z l) in
-    let m = taskMeant-task z r c e in
-    (ne-eqb r 0 (λ q. let h = outside-within (z .tasks) r (m .0) in omega (arith, h .0)), m .1)
+pub one-runs : (z : Size) (l : List ℕ) {x : TaskMeant} → Runner z l x → {c : TaskNo} → x ≡ Task c
+    → (no3 (boardOf z l .running) .applies ≡ false) × (c ≡ taskNo (boardOf z l .running))
+one-runs z l r {c = c} e =
+    let k : ℕ = boardOf z l .running in
+    let m = taskMeant-task z k c (sym (r .0) ∙ e) in
+    (ne-eqb k 0 (λ q. let h = outside-within (z .tasks) k (m .0) in omega (arith, h .0)), m .1)
 
 -- ---- the message that is held
 -- it is: 3, 4 and 5 are passed

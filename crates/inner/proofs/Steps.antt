@@ -8,18 +8,17 @@ use Rattle.board.specs.declared.numbers.TaskNo.{TaskNo}
 use Rattle.board.specs.declared.numbers.MsgNo.{MsgNo}
 use Rattle.board.specs.declared.numbers.TaskMeant.{TaskMeant}
 use Rattle.board.specs.declared.numbers.TaskMeant.the-variants.{Task, NoTask}
-use Rattle.board.specs.Numbers.{taskNo, taskMeant}
+use Rattle.board.specs.Numbers.{taskNo}
 use Rattle.board.specs.Board.{Board, boardOf}
 use Rattle.paper.specs.declared.call.Call.{Call}
 use Rattle.paper.specs.declared.answer.Answer.{Answer}
 use Rattle.paper.specs.declared.answer.Refusal.{Refusal}
 use Rattle.paper.specs.declared.answer.Refusal.the-variants.{NobodyRuns}
-use Rattle.paper.specs.Rules.{running}
 use Rattle.paper.specs.Refusals.{Test, no3, no4, no5, Verdict, Go, Stop, ownRow, lowest}
 use Rattle.stores.specs.declared.Held.{Held}
 use Rattle.stores.specs.declared.Held.the-variants as held
 use Rattle.stores.specs.declared.Body.the-variants.{Done, Stopped}
-use Rattle.stores.specs.Answers.{heldOf, Stored, Makes, replyBy}
+use Rattle.stores.specs.Answers.{Runner, heldOf, Stored, Makes, replyBy}
 use Rattle.stores.specs.Calls.{body, verdict, stepping}
 use Rattle.paper.specs.Outcomes.{Outcome, Ends}
 use Rattle.paper.proofs.Rows.{lowest-stop, lowest-on}
@@ -36,16 +35,16 @@ module _ (l : List ℕ) (s : Stored) {u : Verdict} where
   stopped-by {q = q} {d = d} e f = subst (λ (v : Verdict). Makes (Stopped q) d (replyBy v l s)) (sym e) (record { answers = refl; leaves = f })
 
   -- it is done
-  pub done-by : {x : ℕ} {d : List ℕ} → u ≡ Go → x ≡ s .value → d ≡ s .after → Makes (Done x (s .stirs)) d (replyBy u l s)
-  done-by {x = x} {d = d} e f g =
-      subst (λ (v : Verdict). Makes (Done x (s .stirs)) d (replyBy v l s)) (sym e) (record { answers = λ i. Done (f i) (s .stirs); leaves = g })
+  pub done-by : {x : ℕ} {k : TaskMeant} {d : List ℕ} → u ≡ Go → x ≡ s .value → k ≡ s .stirred → d ≡ s .after → Makes (Done x k) d (replyBy u l s)
+  done-by {x = x} {k = k} {d = d} e f h g =
+      subst (λ (v : Verdict). Makes (Done x k) d (replyBy v l s)) (sym e) (record { answers = λ i. Done (f i) (h i); leaves = g })
 
 module _ (z : Size) (l : List ℕ) (call : Call) where
   abbrev b : Board
   b = boardOf z l
 
   abbrev c : ℕ
-  c = running z b
+  c = b .running
 
   abbrev stored : Stored
   stored = body z l c call
@@ -55,19 +54,19 @@ module _ (z : Size) (l : List ℕ) (call : Call) where
   stops = stopped-by l stored
 
   -- a call that is done
-  pub does : {x : ℕ} {d : List ℕ} → verdict z l call ≡ Go → x ≡ stored .value → d ≡ stored .after
-      → Makes (Done x (stored .stirs)) d (stepping z l call)
+  pub does : {x : ℕ} {k : TaskMeant} {d : List ℕ} → verdict z l call ≡ Go → x ≡ stored .value → k ≡ stored .stirred → d ≡ stored .after
+      → Makes (Done x k) d (stepping z l call)
   does = done-by l stored
 
   -- ---- a row that opens with 3: x is who runs
-  module _ (tests : List Test) (row : ownRow z b c call ≡ no3 c ∷ tests) {x : TaskMeant} (found : x ≡ taskMeant z c) where
+  module _ (tests : List Test) (row : ownRow z b c call ≡ no3 c ∷ tests) {x : TaskMeant} (found : Runner z l x) where
     -- nobody runs
     pub nobody-stops : {d : List ℕ} → x ≡ NoTask → d ≡ l → Makes (Stopped NobodyRuns) d (stepping z l call)
-    nobody-stops e = stops (ap lowest row ∙ lowest-stop (no3 c) tests (nobody-runs z l (sym found ∙ e)))
+    nobody-stops e = stops (ap lowest row ∙ lowest-stop (no3 c) tests (nobody-runs z l found e))
 
     -- one does: the rest of the row decides
     pub one-goes : {k : TaskNo} → x ≡ Task k → (verdict z l call ≡ lowest tests) × (k ≡ taskNo c)
-    one-goes {k = k} e = let r = one-runs z l k (sym found ∙ e) in (ap lowest row ∙ lowest-on (no3 c) tests (r .0), r .1)
+    one-goes {k = k} e = let r = one-runs z l found e in (ap lowest row ∙ lowest-on (no3 c) tests (r .0), r .1)
 
   -- ---- a row that opens with 3, 4 and 5: h is what is held
   module _ (w : ℕ) (tests : List Test) (row : ownRow z b c call ≡ no3 c ∷ no4 z w ∷ no5 b c w ∷ tests) {h : Held}

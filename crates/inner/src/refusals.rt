@@ -3,7 +3,6 @@ ghost use mathlib.Core.Path.{_≡_};
 ghost use Prim.Native.Nat.{_≤_};
 ghost use lib.ListN.{length};
 ghost use Rattle.board.specs.Board.{boardOf, total};
-ghost use Rattle.paper.specs.Rules.{running};
 ghost use Rattle.stores.specs.Answers.{Runs, heldOf, presentMeant};
 use board::numbers::MessageMeant;
 use board::numbers::MsgNo;
@@ -18,7 +17,7 @@ use stores::Held;
 // The running task and the message that w means, where it holds it: else 3, 4 or 5.
 pub fn held(z: Size, l: &[u8], c: TaskMeant, w: u16) -> Held
     requires { ⌜ Runs z (now l) c ⌝ }
-    ensures { λ res. ⌜ res ≡ heldOf z (boardOf z (now (l .entry))) (running z (boardOf z (now (l .entry)))) w ⌝ }
+    ensures { λ res. ⌜ res ≡ heldOf z (boardOf z (now (l .entry))) (boardOf z (now (l .entry)) .running) w ⌝ }
 {
     let TaskMeant::Task(k) = c else {
         return Held::Not(Refusal::NobodyRuns);

@@ -32,7 +32,7 @@ pub fn post_interrupt(z: Size, l: &mut [u8], k: u16) -> Body
     }
     Body::Done {
         value: 0,
-        stirs: true,
+        stirred: TaskMeant::Task(n),
     }
 }
 
@@ -52,6 +52,6 @@ pub fn wait_for_interrupt(z: Size, l: &mut [u8], c: TaskMeant) -> Body
     }
     Body::Done {
         value: 0,
-        stirs: true,
+        stirred: TaskMeant::NoTask,
     }
 }

@@ -1,4 +1,4 @@
-// Records, places and byte 0 on lent bytes that hold a whole board, each by its number. Who reads here has tested the length once, so
+// Records, places and bytes 0 and 1 on lent bytes that hold a whole board, each by its number. Who reads here has tested the length once, so
 // nothing here tests it again: a loop over all records costs the loads alone. A number that the board does not have reads as zeros, and
 // writing there changes nothing.
 ghost use mathlib.Core.Path.{_≡_};
@@ -10,7 +10,7 @@ ghost use Rattle.board.specs.Records.{wordAt};
 ghost use Rattle.board.specs.Places.{isQueuedAt};
 ghost use Rattle.board.specs.Board.{total, boardOf, task, message, place};
 ghost use Rattle.lent.specs.Links.{messageLink};
-ghost use Rattle.board.specs.Writes.{putFirst, putTask, putMessage, putPlace};
+ghost use Rattle.board.specs.Writes.{putFirst, putRunning, putTask, putMessage, putPlace};
 use board::numbers::MessageMeant;
 use board::numbers::MsgNo;
 use board::numbers::Size;
@@ -86,6 +86,15 @@ pub fn put_first_task(l: &mut [u8], k: TaskMeant)
 {
     if 0 < l.len() {
         l[0] = (k.number() % 256) as u8;
+    }
+}
+
+// Who runs is written into byte 1.
+pub fn put_running(l: &mut [u8], c: TaskMeant)
+    ensures { λ _. ⌜ now (l .exit) ≡ putRunning (now (l .entry)) (numberOfTask c % 256) ⌝ }
+{
+    if 1 < l.len() {
+        l[1] = (c.number() % 256) as u8;
     }
 }
 

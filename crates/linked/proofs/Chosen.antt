@@ -3,24 +3,28 @@
 use mathlib.Core.Path.{_≡_, refl, sym, ap, _∙_, subst}
 use mathlib.Core.Logic.{_≢_, Iff·rfl, Iff·trans}
 use mathlib.Core.Bool.{Bool, true, false, cond, not, _&&_, true≢false}
-use mathlib.Core.List.{List}
 use Prim.Native.Nat.{ℕ, _≤_, _<_}
 use native.Mathlib.Omega.{arith}
 use native.Mathlib.Decide.{ℕ-discrete}
 use lib.ListN.{length}
 use lib.Dec.{eqb, ltb}
-use borrow.Author.Tests.{eqb-true, eq-eqb, ltb-false, le-ltb}
+use borrow.Author.Tests.{eqb-true, eq-eqb, ne-eqb, ltb-false, le-ltb}
+use Rattle.links.specs.Queue.{each}
 use Rattle.links.specs.Chain.{In}
-use Rattle.links.proofs.Bools.{refuted, and-true, cond-holds, each-all}
+use Rattle.links.proofs.Bools.{refuted, both, and-true, cond-holds, each-all}
 use Rattle.links.proofs.Members.{not-in-out}
 use Rattle.board.specs.declared.numbers.Size.{Size}
-use Rattle.board.specs.Numbers.{Numbered}
+use Rattle.board.specs.declared.numbers.TaskMeant.the-variants.{Task, NoTask}
+use Rattle.board.specs.Numbers.{Numbered, taskNo, taskMeant, numberOfTask}
 use Rattle.board.specs.Status.{MHBS, has}
+use Rattle.board.specs.Records.{noTask}
 use Rattle.board.specs.Board.{Board, task}
-use Rattle.paper.specs.Rules.{present, nextTask, order, taskNumber, ready, nobodyReady, outranks, mayRun, firstReady, runsNext, rule7}
+use Rattle.board.proofs.Pieces.{within-outside}
+use Rattle.paper.specs.Rules.{isThere, present, nextTask, order, taskNumber, ready, nobodyReady, mayRun, firstReady, runsNext, rule2At, rule3, rule4At, rule5At, rule6At, rules2to6, rule7}
 use Rattle.linked.specs.Linked.{Listing}
 use Rattle.linked.specs.Sound.{Leads, RunsRightly}
-use Rattle.linked.proofs.Says.{Says, _&_, says-not, says-apart, says-each}
+use Rattle.linked.proofs.Says.{Says, _&_, says-not, says-apart, says-each, says-same}
+use Rattle.linked.proofs.Listings.{lists-listing}
 use Rattle.linked.proofs.Running.{present-numbered, ready-says, first-with, first-none, first-least}
 
 -- one who leads may run
@@ -41,12 +45,34 @@ runs-alike b d c r n h = record {
   };
 }
 
+-- R3 is one of R2 to R6
+pub rules3 : (z : Size) (b : Board) → rules2to6 z b ≡ true → rule3 z b ≡ true
+rules3 z b =
+    third (each (rule2At b) (z .tasks)) (rule3 z b) (each (rule4At z b) (z .messages)) (each (rule5At z b) (z .tasks)) (each (rule6At b) (z .tasks))
+  where
+    third : (r s t u v : Bool) → r && s && t && u && v ≡ true → s ≡ true
+    third r s t u v h = both r s (both (r && s) t (both (r && s && t) u (both (r && s && t && u) v h .0) .0) .0) .1
+
 -- the board has as many tasks as its size says
 module _ (z : Size) (b : Board) (tasks : length (b .tasks) ≡ z .tasks) where
   -- ---- what the tests say
   -- a ready task is one of the board's
   pub ready-numbered : (k : ℕ) → ready b k ≡ true → Numbered (z .tasks) k
   ready-numbered k e = rw (← tasks) (present-numbered b k (ready-says b k e .0))
+
+  -- so is the first ready one
+  pub first-numbered : firstReady z b ≢ 0 → Numbered (z .tasks) (firstReady z b)
+  first-numbered n = ready-numbered (firstReady z b) (first-with (ready b) (order z b) n .1)
+
+  -- the first ready one as the task meant
+  pub first-meant : numberOfTask (taskMeant z (firstReady z b)) ≡ firstReady z b
+  first-meant = step (ℕ-discrete (firstReady z b) 0)
+    where
+      step : Dec (firstReady z b ≡ 0) → numberOfTask (taskMeant z (firstReady z b)) ≡ firstReady z b
+      step (yes e) = ap (λ (k : ℕ). numberOfTask (taskMeant z k)) e ∙ sym e
+      step (no n) =
+          let i = first-numbered n in
+          ap (λ (t : Bool). numberOfTask (cond t NoTask (Task (taskNo (firstReady z b))))) (within-outside (z .tasks) (firstReady z b) (i .0) (i .1))
 
   -- nobody is ready
   pub says-nobodyReady : Says (nobodyReady z b) ((k : ℕ) → ready b k ≡ false)
@@ -89,6 +115,10 @@ module _ (z : Size) (b : Board) (tasks : length (b .tasks) ≡ z .tasks) where
           Iff·trans (says-mayRun c & says-not)
           ((λ (l, i). (leads-runs c l, i)), λ (h, i). (h .leads (λ j. true≢false (sym (s .1 (h .nobody .0 j)) ∙ e)), i))
 
+  -- R3: the links list the tasks in order
+  pub tasks-listed : rule3 z b ≡ true → Listing (nextTask b) (taskNumber b) (b .first) (order z b) (λ k. present b k ≡ true)
+  tasks-listed = lists-listing noTask isThere (b .tasks) refl (λ k. Iff·rfl) (nextTask b) (taskNumber b) (z .messages) (b .first)
+
   -- ---- who is chosen, on a board whose links list its tasks in order
   module _ (listed : Listing (nextTask b) (taskNumber b) (b .first) (order z b) (λ k. present b k ≡ true)) where
     in-order : (k : ℕ) → ready b k ≡ true → In k (order z b)
@@ -111,6 +141,37 @@ module _ (z : Size) (b : Board) (tasks : length (b .tasks) ≡ z .tasks) where
         none : Dec (firstReady z b ≡ 0) → ((k : ℕ) → ready b k ≡ false) → firstReady z b ≡ 0
         none (yes e) h = e
         none (no n) h = absurd (true≢false (sym (first-with (ready b) (order z b) n .1) ∙ h (firstReady z b)))
+
+    -- R7 where the first ready one is known: the task that runs is compared with it alone
+    pub rule7-first : let c = b .running in let f = firstReady z b in
+        rule7 z b ≡ cond (eqb f 0) (eqb c 0) (ready b c && not (ltb (taskNumber b f) (taskNumber b c)) && not (has (task b c .stat) MHBS))
+    rule7-first = says-same says-rule7 (step (ℕ-discrete f 0))
+      where
+        c : ℕ
+        c = b .running
+
+        f : ℕ
+        f = firstReady z b
+
+        step : Dec (f ≡ 0)
+            → Says (cond (eqb f 0) (eqb c 0) (ready b c && not (ltb (taskNumber b f) (taskNumber b c)) && not (has (task b c .stat) MHBS)))
+            (RunsRightly b c × (has (task b c .stat) MHBS ≡ false))
+        step (yes e) = let none = first-runs .nobody .0 e in rw (eq-eqb f 0 e) (
+          (λ d. let i = eqb-true c 0 d in
+              (record { nobody = ((λ j. none), λ j. i); leads = λ n. absurd (n i) }, ap (λ (k : ℕ). has (task b k .stat) MHBS) i)),
+          λ h. eq-eqb c 0 (h .0 .nobody .1 none),
+        )
+        step (no n) = let l = first-runs .leads n in rw (ne-eqb f 0 n) (Iff·trans (Iff·rfl & says-not & says-not) (
+          (λ ((r, h), i). (
+            leads-runs c (record {
+              awake = r;
+              smallest = λ k e. let x = ltb-false (taskNumber b f) (taskNumber b c) h in let y = l .smallest k e in omega (arith, x, y);
+            }),
+            i,
+          )),
+          λ (h, i). let some : c ≢ 0 = λ e. true≢false (sym (l .awake) ∙ h .nobody .0 e f) in
+              ((h .leads some .awake, le-ltb (taskNumber b f) (taskNumber b c) (h .leads some .smallest f (l .awake))), i),
+        ))
 
     -- one that is ready, all others that are being behind it
     pub first-only : (w : ℕ) → ready b w ≡ true → ((k : ℕ) → ready b k ≡ true → k ≢ w → taskNumber b w < taskNumber b k) → firstReady z b ≡ w

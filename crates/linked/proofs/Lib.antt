@@ -4,4 +4,5 @@ pub mod Listings
 pub mod Running
 pub mod Chosen
 pub mod Boards
+pub mod Converting
 pub mod Theorems

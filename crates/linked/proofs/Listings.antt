@@ -31,15 +31,16 @@ module _ {A : Type 0} (none : A) (f : A → Bool) (l : List A) (fails : f none �
     which-member : (y : ℕ) → In y (which f 1 l) ↔ Member y
     which-member y = Iff·trans (which-nth none f l fails y) (same y)
 
+    -- where the test passes, they list what is walked
+    pub lists-listing : (next number : ℕ → ℕ) (n x : ℕ) → lists next number n x (which f 1 l) ≡ true
+        → Listing next number x (walk next n x) Member
+    lists-listing next number n x e =
+        let (c, r, s) = lists-chain next number n x (which f 1 l) e in
+        let i = rearranged-in (walk next n x) (which f 1 l) r in
+        record { chain = c; exact = λ y. Iff·trans (i y) (which-member y); sorted = s }
+
     -- with fuel for all records
     module _ {next number : ℕ → ℕ} {n x : ℕ} (fuel : length l ≤ n) where
-      -- where the test passes, they list what is walked
-      lists-listing : lists next number n x (which f 1 l) ≡ true → Listing next number x (walk next n x) Member
-      lists-listing e =
-          let (c, r, s) = lists-chain next number n x (which f 1 l) e in
-          let i = rearranged-in (walk next n x) (which f 1 l) r in
-          record { chain = c; exact = λ y. Iff·trans (i y) (which-member y); sorted = s }
-
       -- where they list anything, it passes, and that is what is walked
       listing-lists : (q : List ℕ) → Listing next number x q Member
           → (lists next number n x (which f 1 l) ≡ true) × (walk next n x ≡ q)
@@ -50,7 +51,7 @@ module _ {A : Type 0} (none : A) (f : A → Bool) (l : List A) (fails : f none �
 
       -- the test says that they list what is walked
       pub says-lists : Says (lists next number n x (which f 1 l)) (Listing next number x (walk next n x) Member)
-      says-lists = (lists-listing, λ g. listing-lists (walk next n x) g .0)
+      says-lists = (lists-listing next number n x, λ g. listing-lists (walk next n x) g .0)
 
       -- what they list is what is walked
       pub listing-walk : (q : List ℕ) → Listing next number x q Member → walk next n x ≡ q

@@ -7,7 +7,7 @@ use Prim.Native.Nat.{ℕ, _≤_, _<_}
 use lib.Dec.{eqb, leb, ltb}
 use borrow.Author.Tests.{eqb-true, eq-eqb, leb-true, le-leb, ltb-true, lt-ltb}
 use Rattle.links.specs.Queue.{each}
-use Rattle.links.proofs.Bools.{both, and-true, each-at, each-all}
+use Rattle.links.proofs.Bools.{refuted, both, and-true, each-at, each-all}
 use Rattle.board.specs.Numbers.{Numbered}
 
 -- the test t passes exactly if P holds
@@ -26,6 +26,11 @@ says-leb {a = a} {b = b} = (leb-true a b, le-leb a b)
 -- the first is below the second
 pub says-ltb : {a b : ℕ} → Says (ltb a b) (a < b)
 says-ltb {a = a} {b = b} = (ltb-true a b, lt-ltb a b)
+
+-- two tests that say the same are the same
+pub says-same : {s t : Bool} {P : Type 0} → Says s P → Says t P → s ≡ t
+says-same {s = true} h g = sym (g .1 (h .0 refl))
+says-same {s = false} h g = sym (refuted _ (λ e. true≢false (sym (h .1 (g .0 e)))))
 
 -- ---- put together
 infixl 35 _&_

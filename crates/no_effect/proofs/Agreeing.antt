@@ -15,7 +15,7 @@ use Rattle.paper.specs.declared.call.Call.{Call}
 use Rattle.paper.specs.declared.answer.Rule.{Rule}
 use Rattle.paper.specs.declared.answer.Refusal.the-variants.{WrongLength, RuleBroken}
 use Rattle.paper.specs.declared.answer.Answer.the-variants.{Accepted}
-use Rattle.paper.specs.Rules.{running, passes}
+use Rattle.paper.specs.Rules.{passes}
 use Rattle.paper.specs.Named.{brokenRule}
 use Rattle.paper.specs.Refusals.{Test, test, no1, no2, ownRow, row, Verdict, Go, Stop, lowest}
 use Rattle.paper.specs.Outcomes.{Outcome, accepted, judge, Undispatched, body, dispatch, effect}
@@ -24,11 +24,11 @@ use Rattle.kept.specs.Claims.{Sizes}
 use Rattle.kept.proofs.Reading.{go-passed}
 use Rattle.kept.proofs.Fitting.{fits-board}
 use Rattle.kept.proofs.Bodies.{body-settles}
-use Rattle.kept.proofs.Theorems.{sound-settled, sound-runner, passing-sound}
+use Rattle.kept.proofs.Theorems.{sound-settled, sound-awake, passing-sound}
 use Rattle.bare.specs.Bare.{bareBoard}
 use Rattle.no_effect.specs.Claims.{Alike}
-use Rattle.bare.proofs.Reading.{running-bare, passes-bare, broken-bare}
-use Rattle.no_effect.proofs.Dispatching.{left, delivered, left-alike, delivered-bare, Returns}
+use Rattle.bare.proofs.Reading.{passes-bare, broken-bare}
+use Rattle.no_effect.proofs.Dispatching.{chosen, chosen-bare, left, delivered, left-alike, delivered-bare, Returns}
 use Rattle.no_effect.proofs.Dispatching.{left-returns, dispatch-leaves}
 
 -- ---- what the two bits don't matter to is the same of two boards
@@ -36,10 +36,9 @@ pub same : {A : Type 0} (f : Board → A) → ((b : Board) → f (bareBoard b) �
     → f b ≡ f d
 same f h b d e = sym (h b) ∙ ap f e ∙ h d
 
--- and of each with its running task
-pub same-run : {A : Type 0} (z : Size) (f : Board → ℕ → A) → ((b : Board) → let c = running z b in f (bareBoard b) c ≡ f b c)
-    → (b d : Board) → bareBoard b ≡ bareBoard d → f b (running z b) ≡ f d (running z d)
-same-run z f h b d e = same (λ b. f b (running z b)) (λ b. ap (f (bareBoard b)) (running-bare z b) ∙ h b) b d e
+-- with who runs next in byte 1 they are still the same but for the two bits
+same-chosen : (z : Size) (b d : Board) → bareBoard b ≡ bareBoard d → bareBoard (chosen z b) ≡ bareBoard (chosen z d)
+same-chosen z b d e = sym (chosen-bare z b) ∙ ap (chosen z) e ∙ chosen-bare z d
 
 -- ---- two outcomes
 abbrev pub Agree : Size → Outcome → Outcome → Type 0
@@ -66,13 +65,12 @@ verdicts z l d tests others a e =
 
 -- ---- a call that is accepted
 abbrev pub begun : Size → Board → Call → Undispatched
-begun z b call = body z b (running z b) call
+begun z b call = body z b (b .running) call
 
 -- it ends with the board that dispatch leaves, and this reads back
 record Ended (z : Size) (l : List ℕ) (x : Undispatched) : Type 0 where
-  ends : let c = running z (x .board) in
-      dispatch z l x ≡ accepted (x .value) c (delivered z (x .board) c) (bytesOf (left z (x .board) c))
-  returns : Returns z (left z (x .board) (running z (x .board)))
+  ends : let d = chosen z (x .board) in dispatch z l x ≡ accepted (x .value) (d .running) (delivered z d) (bytesOf (left z d))
+  returns : Returns z (left z (chosen z (x .board)))
 
 passed : (z : Size) (l : List ℕ) (b : Board) (c : ℕ) (call : Call) → lowest (row z l b c call) ≡ Go
     → (length l ≡ total z) × (passes z b ≡ true) × (lowest (ownRow z b c call) ≡ Go)
@@ -82,24 +80,27 @@ passed z l b c call g =
     (eqb-true _ _ (not-false _ (long .0)), not-false (passes z b) (rules .0), rules .1)
 
 ended : (z : Size) (l : List ℕ) (call : Call) → Sizes z → ((i : ℕ) → Byte (getD l i 0)) → Fitting call → let b = boardOf z l in
-    lowest (row z l b (running z b) call) ≡ Go → Ended z l (begun z b call)
+    lowest (row z l b (b .running) call) ≡ Go → Ended z l (begun z b call)
 ended z l call a h w g =
     let b = boardOf z l in
-    let (long, rules, own) = passed z l b (running z b) call g in
+    let (long, rules, own) = passed z l b (b .running) call g in
     let f = fits-board z l (record { long = long; bytes = h }) in
     let s = passing-sound z b a f rules in
-    let t = body-settles z b (s .order) (s .queues) call a w (sound-settled z b a f s) (sound-runner z b a f s) own in
+    let awake = sound-awake z b a f s in
+    let t = body-settles z b (s .order) (s .queues) (b .running) call a w (sound-settled z b a f s) awake (s .idle) own in
     let x = begun z b call in
     record { ends = dispatch-leaves z (x .board) _ _ a t l (x .value); returns = left-returns z (x .board) _ _ a t }
 
 ends-agree : (z : Size) (l d : List ℕ) (x y : Undispatched) → x .value ≡ y .value → bareBoard (x .board) ≡ bareBoard (y .board)
     → Ended z l x → Ended z d y → Agree z (dispatch z l x) (dispatch z d y)
 ends-agree z l d x y v e s t =
-    let runs = same (running z) (running-bare z) (x .board) (y .board) e in
-    let given = same-run z (delivered z) (λ b. delivered-bare z b (running z b)) (x .board) (y .board) e in
-    let lefts = same-run z (λ b c. bareBoard (left z b c)) (λ b. left-alike z b (running z b)) (x .board) (y .board) e in
+    let b : Board = chosen z (x .board) in
+    let c : Board = chosen z (y .board) in
+    let alike = same-chosen z (x .board) (y .board) e in
+    let given = same (delivered z) (delivered-bare z) b c alike in
+    let lefts = same (λ b. bareBoard (left z b)) (left-alike z) b c alike in
     rw (s .ends, t .ends) (
-      λ i. Accepted (v i) (runs i) (given i),
+      λ i. Accepted (v i) (alike i .running) (given i),
       record {
         long = s .returns .0 .long ∙ sym (t .returns .0 .long);
         boards = ap bareBoard (s .returns .1) ∙ lefts ∙ sym (ap bareBoard (t .returns .1));
@@ -115,12 +116,12 @@ module _ (z : Size) (l d : List ℕ) (call other : Call) (a : Sizes z) (h : (i :
   abbrev c : Board
   c = boardOf z d
 
-  pub effects-agree : ownRow z b (running z b) call ≡ ownRow z c (running z c) other
+  pub effects-agree : ownRow z b (b .running) call ≡ ownRow z c (c .running) other
       → begun z b call .value ≡ begun z c other .value
-      → (lowest (ownRow z b (running z b) call) ≡ Go → bareBoard (begun z b call .board) ≡ bareBoard (begun z c other .board))
+      → (lowest (ownRow z b (b .running) call) ≡ Go → bareBoard (begun z b call .board) ≡ bareBoard (begun z c other .board))
       → Agree z (effect z l call) (effect z d other)
   effects-agree rows values boards =
-      judge-agree z l d (lowest (row z l b (running z b) call)) (lowest (row z d c (running z c) other)) _ _ e
-      (verdicts z l d (ownRow z b (running z b) call) (ownRow z c (running z c) other) e rows)
-      (λ g n. ends-agree z l d (begun z b call) (begun z c other) values (boards (passed z l b (running z b) call g .2))
+      judge-agree z l d (lowest (row z l b (b .running) call)) (lowest (row z d c (c .running) other)) _ _ e
+      (verdicts z l d (ownRow z b (b .running) call) (ownRow z c (c .running) other) e rows)
+      (λ g n. ends-agree z l d (begun z b call) (begun z c other) values (boards (passed z l b (b .running) call g .2))
       (ended z l call a h w g) (ended z d other a k u n))

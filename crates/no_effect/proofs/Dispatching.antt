@@ -1,45 +1,56 @@
 -- What dispatch leaves of a settled board and what it delivers: the same, but for DEBUG and MROB, where these are cleared before;
 -- and the bytes that it leaves read back.
 -- Assumes nothing.
-use mathlib.Core.Path.{_≡_, refl, sym, ap, ap₂, _∙_}
-use mathlib.Core.Bool.{Bool, true, false, cond, true≢false}
+use mathlib.Core.Path.{_≡_, refl, ap, ap₂}
+use mathlib.Core.Bool.{Bool, true, false, cond}
 use mathlib.Core.List.{List}
 use Prim.Native.Nat.{ℕ}
 use Rattle.links.specs.Queue.{firstOf}
 use Rattle.links.proofs.Bools.{cond-holds}
 use Rattle.board.specs.declared.numbers.Size.{Size}
 use Rattle.board.specs.Status.{MHBS, has}
-use Rattle.board.specs.Board.{Board, boardOf, bytesOf, task}
+use Rattle.board.specs.Board.{Board, boardOf, bytesOf, task, withRunning}
 use Rattle.board.specs.Claims.{Bytes}
-use Rattle.paper.specs.Rules.{queue, running}
+use Rattle.paper.specs.Rules.{queue, runsNext}
 use Rattle.paper.specs.Changes.{clears, takeFirst}
 use Rattle.paper.specs.Outcomes.{accepted, undispatched, dispatch}
-use Rattle.linked.proofs.Running.{runner-says}
+use Rattle.linked.specs.Sound.{RunsRightly}
+use Rattle.linked.proofs.Chosen.{runs-alike}
 use Rattle.kept.specs.Settled.{Settled}
 use Rattle.kept.specs.Claims.{Sizes}
 use Rattle.kept.proofs.Fitting.{board-bytes, bytes-fit}
 use Rattle.kept.proofs.Taking.{deliver-settled}
-use Rattle.kept.proofs.Dispatching.{dispatch-delivers}
+use Rattle.kept.proofs.Dispatching.{next-rightly, next-settled, due-there, dispatch-delivers}
 use Rattle.bare.specs.Bare.{bareBoard}
 use Rattle.bare.proofs.Bits.{mhbs}
-use Rattle.bare.proofs.Reading.{has-bare, queue-bare}
+use Rattle.bare.proofs.Reading.{has-bare, queue-bare, runsNext-bare}
 use Rattle.bare.proofs.Writing.{bare-alike, bare-cond, bare-delivered}
 
--- ---- with c running: whether a message is due to it, the board that is left, the message that is delivered
-abbrev due : Board → ℕ → Bool
-due b c = has (task b c .stat) MHBS
+-- ---- who runs next, in byte 1
+abbrev pub chosen : Size → Board → Board
+chosen z b = withRunning b (runsNext z b)
 
-abbrev pub left : Size → Board → ℕ → Board
-left z b c = cond (due b c) (clears (takeFirst z b c) c MHBS) b
+pub chosen-bare : (z : Size) (b : Board) → chosen z (bareBoard b) ≡ bareBoard (chosen z b)
+chosen-bare z b = ap (withRunning (bareBoard b)) (runsNext-bare z b)
 
-abbrev pub delivered : Size → Board → ℕ → ℕ
-delivered z b c = cond (due b c) (firstOf (queue z b c)) 0
+-- ---- with that: whether a message is due, the board that is left, the message that is delivered
+abbrev due : Board → Bool
+due b = has (task b (b .running) .stat) MHBS
 
-module _ (z : Size) (b : Board) (c : ℕ) where
-  pub left-alike : bareBoard (left z (bareBoard b) c) ≡ bareBoard (left z b c)
-  left-alike = bare-alike (left z b c) _ (bare-cond (due b c) _ _ _ _ _ (has-bare b c MHBS mhbs) (bare-delivered z b c) refl)
+abbrev pub left : Size → Board → Board
+left z b = let c = b .running in cond (due b) (clears (takeFirst z b c) c MHBS) b
 
-  pub delivered-bare : delivered z (bareBoard b) c ≡ delivered z b c
+abbrev pub delivered : Size → Board → ℕ
+delivered z b = cond (due b) (firstOf (queue z b (b .running))) 0
+
+module _ (z : Size) (b : Board) where
+  abbrev c : ℕ
+  c = b .running
+
+  pub left-alike : bareBoard (left z (bareBoard b)) ≡ bareBoard (left z b)
+  left-alike = bare-alike (left z b) _ (bare-cond (due b) _ _ _ _ _ (has-bare b c MHBS mhbs) (bare-delivered z b c) refl)
+
+  pub delivered-bare : delivered z (bareBoard b) ≡ delivered z b
   delivered-bare = ap₂ (λ (t : Bool) (q : List ℕ). cond t (firstOf q) 0) (has-bare b c MHBS mhbs) (queue-bare z b c)
 
 -- ---- of a settled board
@@ -52,21 +63,32 @@ settled-returns z b order queues s = (bytes-fit z b (s .fits) (s .regular .zeros
 
 module _ (z : Size) (b : Board) (order : List ℕ) (queues : ℕ → List ℕ) (sizes : Sizes z)
     (settled : Settled z b order queues) where
-  -- so do those that are left
-  pub left-returns : Returns z (left z b (running z b))
-  left-returns = cond-holds (Returns z) (due b (running z b)) _ _ delivers (λ e. settled-returns z b order queues settled)
+  -- it is settled with who runs next in byte 1 too
+  abbrev d : Board
+  d = chosen z b
+
+  s : Settled z d order queues
+  s = next-settled z b order queues sizes settled
+
+  -- and that task runs rightly
+  right : RunsRightly d (d .running)
+  right = runs-alike b d (d .running) (λ k. refl) (λ k. refl) (next-rightly z b order queues sizes settled)
+
+  -- the bytes that are left read back too
+  pub left-returns : Returns z (left z d)
+  left-returns = cond-holds (Returns z) (due d) _ _ delivers (λ e. settled-returns z d order queues s)
     where
-      delivers : due b (running z b) ≡ true → Returns z (clears (takeFirst z b (running z b)) (running z b) MHBS)
+      delivers : due d ≡ true → Returns z (clears (takeFirst z d (d .running)) (d .running) MHBS)
       delivers e =
-          let there = runner-says z b (λ n. true≢false (sym e ∙ ap (due b) n)) .0 in
-          settled-returns z _ order _ (deliver-settled z b order queues sizes settled (running z b) there e)
+          let there = due-there z d order queues sizes s (d .running) right e in
+          settled-returns z _ order _ (deliver-settled z d order queues sizes s (d .running) there e)
 
   -- and dispatch leaves them
-  pub dispatch-leaves : (l : List ℕ) (v : ℕ) → let c = running z b in
-      dispatch z l (undispatched v b) ≡ accepted v c (delivered z b c) (bytesOf (left z b c))
-  dispatch-leaves l v = let c = running z b in step (due b c) refl
+  pub dispatch-leaves : (l : List ℕ) (v : ℕ)
+      → dispatch z l (undispatched v b) ≡ accepted v (d .running) (delivered z d) (bytesOf (left z d))
+  dispatch-leaves l v = step (due d) refl
     where
-      step : (t : Bool) → due b (running z b) ≡ t → let c = running z b in
-          dispatch z l (undispatched v b) ≡ accepted v c (delivered z b c) (bytesOf (left z b c))
-      step true e = rw (e, dispatch-delivers z b order queues sizes settled e)
+      step : (t : Bool) → due d ≡ t
+          → dispatch z l (undispatched v b) ≡ accepted v (d .running) (delivered z d) (bytesOf (left z d))
+      step true e = rw (e, dispatch-delivers z d order queues sizes s (d .running) right e)
       step false e = rw e

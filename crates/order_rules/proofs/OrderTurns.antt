@@ -21,7 +21,7 @@ use Rattle.board.specs.Board.{Board, boardOf, task}
 use Rattle.board.proofs.Pieces.{not-none, nth-outside}
 use Rattle.board.proofs.Meant.{taskMeant-task}
 use Rattle.board.proofs.Codec.{length-tasks}
-use Rattle.paper.specs.Rules.{isThere, present, ready, nextTask, taskNumber, running, rule3}
+use Rattle.paper.specs.Rules.{isThere, present, ready, nextTask, taskNumber, firstReady, rule3}
 use Rattle.queue_rules.specs.declared.Walked.{Walked}
 use Rattle.queue_rules.specs.declared.Walked.the-variants as walks
 use Rattle.order_rules.specs.declared.tasks.OrderWalked.{OrderWalked}
@@ -30,7 +30,7 @@ use Rattle.order_rules.specs.declared.tasks.Order.{Order}
 use Rattle.order_rules.specs.declared.tasks.Order.the-variants as order
 use Rattle.order_rules.specs.declared.tasks.TaskTurn.{TaskTurn}
 use Rattle.order_rules.specs.declared.tasks.TaskTurn.the-variants as ts
-use Rattle.order_rules.specs.Order.{onTask, taskTurned, orderVisited, withRunner, orderFrom, listedBy}
+use Rattle.order_rules.specs.Order.{onTask, taskTurned, orderVisited, withReady, orderFrom, listedBy}
 use Rattle.queue_rules.specs.Walks.{counted, saw}
 use Rattle.queue_rules.proofs.Lists.{rule3-is}
 use Rattle.queue_rules.proofs.Turns.{first-none, first-out, first-found, first-behind}
@@ -167,7 +167,7 @@ module _ (z : Size) (l : List ℕ) where
       ap who.Task e ∙ sym (ap (λ (t : Bool). cond t who.NoTask (who.Task (taskNo k))) o)
       ∙ ap (taskMeant z) (first-found (ready b) (nextTask b) n k inv h (not-none (z .tasks) k o) f)
 
-  -- ---- who runs, looked for alone: r is the first ready task from x on
+  -- ---- the first ready task, looked for alone: r is the first from x on
   walk-beyond : (n w : ℕ) → outside (z .tasks) w ≡ true → firstWith (ready b) (walk (nextTask b) n w) ≡ 0
   walk-beyond zero w o = sym (first-out (ready b) (nextTask b) zero w refl refl)
   walk-beyond (suc n) w o = go (eqb w 0) refl
@@ -205,12 +205,12 @@ module _ (z : Size) (l : List ℕ) where
   module _ (n : ℕ) (x : TaskMeant) {r : ℕ} (i : taskMeant z (numberOfTask x) ≡ x)
       (inv : firstWith (ready b) (walk (nextTask b) n (numberOfTask x)) ≡ r) where
     -- the walk is at its end
-    pub runs-none : x ≡ who.NoTask → who.NoTask ≡ taskMeant z r
-    runs-none e = ap (taskMeant z) (first-none (ready b) (nextTask b) n (numberOfTask x) inv (ap numberOfTask e))
+    pub first-at-end : x ≡ who.NoTask → who.NoTask ≡ taskMeant z r
+    first-at-end e = ap (taskMeant z) (first-none (ready b) (nextTask b) n (numberOfTask x) inv (ap numberOfTask e))
 
     -- no link is left to follow
-    pub runs-out : n ≡ 0 → who.NoTask ≡ taskMeant z r
-    runs-out e = ap (taskMeant z) (first-out (ready b) (nextTask b) n (numberOfTask x) inv e)
+    pub first-no-link : n ≡ 0 → who.NoTask ≡ taskMeant z r
+    first-no-link e = ap (taskMeant z) (first-out (ready b) (nextTask b) n (numberOfTask x) inv e)
 
     -- it is at task k
     module _ (k : TaskNo) (e : x ≡ who.Task k) (h : 0 < n) where
@@ -220,12 +220,12 @@ module _ (z : Size) (l : List ℕ) where
       from : firstWith (ready b) (walk (nextTask b) n (k .0)) ≡ r
       from = ap (λ (y : TaskMeant). firstWith (ready b) (walk (nextTask b) n (numberOfTask y))) (sym e) ∙ inv
 
-      pub runs-found : ready b (k .0) ≡ true → who.Task k ≡ taskMeant z r
-      runs-found f = order-found n (k .0) k h there refl f from
+      pub first-here : ready b (k .0) ≡ true → who.Task k ≡ taskMeant z r
+      first-here f = order-found n (k .0) k h there refl f from
 
-      pub runs-behind : (y : TaskMeant) → y ≡ taskMeant z (nextTask b (k .0)) → ready b (k .0) ≡ false
+      pub first-behind-it : (y : TaskMeant) → y ≡ taskMeant z (nextTask b (k .0)) → ready b (k .0) ≡ false
           → (taskMeant z (numberOfTask y) ≡ y) × (firstWith (ready b) (walk (nextTask b) (n - 1) (numberOfTask y)) ≡ r)
-      runs-behind y g f = (
+      first-behind-it y g f = (
         meant-again (nextTask b (k .0)) y g,
         walk-meant (n - 1) (nextTask b (k .0)) y g
             ∙ first-behind (ready b) (nextTask b) n (k .0) from refl h (not-none (z .tasks) (k .0) there) f,
@@ -234,12 +234,12 @@ module _ (z : Size) (l : List ℕ) where
   -- ---- the whole walk, which starts at x
   pub order-empty : (x : ℕ) → x ≡ 0 → Seen 0 who.NoTask ≡ orderFrom z b x
   order-empty x e =
-      ap₂ withRunner (sym (visited-end (nextTask b) (taskNumber b) (present b) (z .messages) x 0 0 e))
+      ap₂ withReady (sym (visited-end (nextTask b) (taskNumber b) (present b) (z .messages) x 0 0 e))
       (ap (taskMeant z) (first-none (ready b) (nextTask b) (z .messages) x refl e))
 
   pub order-beyond : (x : ℕ) → (x ≡ 0 → ⊥) → outside (z .tasks) x ≡ true → Broken ≡ orderFrom z b x
   order-beyond x h o =
-      ap (λ (w : Walked). withRunner w (taskMeant z (firstWith (ready b) (walk (nextTask b) (z .messages) x))))
+      ap (λ (w : Walked). withReady w (taskMeant z (firstWith (ready b) (walk (nextTask b) (z .messages) x))))
       (sym (visited-stray (nextTask b) (taskNumber b) (present b) (z .messages) x 0 0 h (nobody-there z l x o)))
 
 -- ---- R3
@@ -255,12 +255,12 @@ module _ (z : Size) (l : List ℕ) where
   abbrev board : Board
   board = boardOf z l
 
-  abbrev runner : TaskMeant
-  runner = taskMeant z (running z board)
+  abbrev first : TaskMeant
+  first = taskMeant z (firstReady z board)
 
-  -- R3's answer: the task queue is in order and this task runs, or it is broken
+  -- R3's answer: the task queue is in order and this is its first ready task, or it is broken
   abbrev pub listed : Order
-  listed = cond (rule3 z board) (order.Listed runner) order.Broken
+  listed = cond (rule3 z board) (order.Listed first) order.Broken
 
   abbrev seen : Walked
   seen = orderVisited board (z .messages) (board .first) 0 0
@@ -269,8 +269,8 @@ module _ (z : Size) (l : List ℕ) where
   pub order-counted : (p : ℕ) → p ≡ counted (present board) (z .tasks)
       → listedBy p (orderFrom z board (board .first)) ≡ listed
   order-counted p g =
-      told seen ∙ ap (λ (t : Bool). cond t (order.Listed runner) order.Broken) (ap (saw seen) g ∙ rule3-is z board (length-tasks z l))
+      told seen ∙ ap (λ (t : Bool). cond t (order.Listed first) order.Broken) (ap (saw seen) g ∙ rule3-is z board (length-tasks z l))
     where
-      told : (v : Walked) → listedBy p (withRunner v runner) ≡ cond (saw v p) (order.Listed runner) order.Broken
+      told : (v : Walked) → listedBy p (withReady v first) ≡ cond (saw v p) (order.Listed first) order.Broken
       told (walks.Seen n) = refl
       told walks.Broken = refl

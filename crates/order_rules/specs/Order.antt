@@ -1,8 +1,8 @@
--- R3 as code tests it: one walk of the task queue that counts, and meets the running task. The contracts of src/tasks.rt cite this file.
+-- R3 as code tests it: one walk of the task queue that counts, and meets the first ready task. The contracts of src/tasks.rt cite this file.
 --   taskTurned z b k low   one link of the task queue; one that leads beyond the board leads astray
 --   orderVisited b n x ..  the walk of the task queue
 --   orderFrom z b x        the walk from x on, with the first ready task that it meets
---   listedBy p w           what a walk says where p tasks are present: all are listed and this task runs, or it is broken
+--   listedBy p w           what a walk says where p tasks are present: all are listed and this is the first ready one, or it is broken
 -- Assumes nothing.
 use mathlib.Core.Bool.{cond}
 use Prim.Native.Nat.{ℕ}
@@ -34,14 +34,14 @@ taskTurned z b = went (nextTask b) (taskNumber b) (present b) (λ y p. onTask (t
 abbrev pub orderVisited : Board → ℕ → ℕ → ℕ → ℕ → Walked
 orderVisited b = visited (nextTask b) (taskNumber b) (present b)
 
--- what a walk saw, and c runs
-abbrev pub withRunner : Walked → TaskMeant → OrderWalked
-withRunner (walks.Seen n) c = Seen n c
-withRunner walks.Broken c = Broken
+-- what a walk saw, and c is the first ready task
+abbrev pub withReady : Walked → TaskMeant → OrderWalked
+withReady (walks.Seen n) c = Seen n c
+withReady walks.Broken c = Broken
 
 abbrev pub orderFrom : Size → Board → ℕ → OrderWalked
 orderFrom z b x =
-    withRunner (orderVisited b (z .messages) x 0 0) (taskMeant z (firstWith (ready b) (walk (nextTask b) (z .messages) x)))
+    withReady (orderVisited b (z .messages) x 0 0) (taskMeant z (firstWith (ready b) (walk (nextTask b) (z .messages) x)))
 
 abbrev pub listedBy : ℕ → OrderWalked → Order
 listedBy p (Seen n c) = cond (eqb n p) (order.Listed c) order.Broken

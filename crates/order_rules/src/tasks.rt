@@ -1,12 +1,12 @@
-// R3: the links of the task queue visit every present task, and priority numbers never fall. The walk meets the running task, its first
-// ready one, on its way, so the check need not look for it again.
+// R3: the links of the task queue visit every present task, and priority numbers never fall. The walk meets the first ready
+// task on its way, of which R7 asks.
 ghost use mathlib.Core.Path.{_≡_};
 ghost use mathlib.Core.Bool.{false};
 ghost use Prim.Native.Nat.{_-_, _≤_};
 ghost use lib.ListN.{length};
 ghost use Rattle.board.specs.Numbers.{outside};
 ghost use Rattle.board.specs.Board.{total, boardOf};
-ghost use Rattle.order_rules.specs.Order.{taskTurned, orderVisited, withRunner, orderFrom, listedBy};
+ghost use Rattle.order_rules.specs.Order.{taskTurned, orderVisited, withReady, orderFrom, listedBy};
 use board::numbers::Size;
 use board::numbers::TaskMeant;
 use board::numbers::TaskNo;
@@ -30,7 +30,7 @@ pub enum OrderWalked {
     Broken,
 }
 
-// R3: the task queue is in order, and this task runs; or it is broken.
+// R3: the task queue is in order, and this is its first ready task; or it is broken.
 pub enum Order {
     Listed(TaskMeant),
     Broken,
@@ -86,9 +86,9 @@ fn walk_on(z: Size, l: &[u8], from: TaskNo, least: u8, before: u32) -> Walked
     Walked::Broken
 }
 
-// What the walk saw, and c runs.
-fn with_runner(w: Walked, c: TaskMeant) -> OrderWalked
-    ensures { λ res. ⌜ res ≡ withRunner w c ⌝ }
+// What the walk saw, and c is the first ready task.
+fn with_ready(w: Walked, c: TaskMeant) -> OrderWalked
+    ensures { λ res. ⌜ res ≡ withReady w c ⌝ }
 {
     match w {
         Walked::Seen(n) => OrderWalked::Seen { n: n, c: c },
@@ -108,7 +108,7 @@ fn walk_from(z: Size, l: &[u8], first: TaskNo) -> OrderWalked
     while seen < limit {
         let t = task_at(z, l, k);
         if t.ready() {
-            return with_runner(walk_on(z, l, k, low, seen), TaskMeant::Task(k));
+            return with_ready(walk_on(z, l, k, low, seen), TaskMeant::Task(k));
         }
         seen += 1;
         let turn = task_turn(z, l, k, low);
@@ -118,7 +118,7 @@ fn walk_from(z: Size, l: &[u8], first: TaskNo) -> OrderWalked
                 low = p;
             }
             TaskTurn::End => {
-                return with_runner(Walked::Seen(seen), TaskMeant::NoTask);
+                return with_ready(Walked::Seen(seen), TaskMeant::NoTask);
             }
             TaskTurn::Stray => {
                 return OrderWalked::Broken;

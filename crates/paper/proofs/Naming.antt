@@ -34,7 +34,7 @@ use Rattle.paper.specs.declared.answer.Answer.the-variants.{Accepted, Re
 use Rattle.paper.specs.Answers.{ruleNumber, recordNumber, told, numberOf, handed}
 use Rattle.paper.specs.Rules.{nextMessage, messageNumber, queue, firstReady, rules2to6, passes}
 use Rattle.paper.specs.Rules.{rule2At, rule3, rule4At, rule5At, rule6At}
-use Rattle.paper.specs.Named.{unless, brokenFrom2, brokenRule}
+use Rattle.paper.specs.Named.{unless, broken2to6, brokenRule}
 use Rattle.paper.specs.Refusals.{Test, no1, no2By, ownRow, Verdict, lowest}
 use Rattle.paper.specs.Outcomes.{Outcome, accepted, judge, dispatch, body}
 use Rattle.paper.specs.Conversion.{oldPasses, oldBroken}
@@ -157,19 +157,34 @@ regrouped : (a b c d e f : Bool) → a && b && c && d && e && f ≡ true → a &
 regrouped true b c d e f h = h
 regrouped false b c d e f h = h
 
+-- and so are the rules that they name
+in-a-row : (b c d e f : Bool) (r s t u v w : Rule)
+    → unless (b && c && d && e && f) (unless b r (unless c s (unless d t (unless e u v)))) w
+    ≡ unless b r (unless c s (unless d t (unless e u (unless f v w))))
+in-a-row true true true true f r s t u v w = refl
+in-a-row true true true false f r s t u v w = refl
+in-a-row true true false e f r s t u v w = refl
+in-a-row true false d e f r s t u v w = refl
+in-a-row false c d e f r s t u v w = refl
+
 -- R1 and R7 by the rules of today or by the old ones
 named : (by : Ends1And7) (z : Size) (b : Board) → by .first && rules2to6 z b && by .last ≡ false
-    → Lowest by z b (unless (by .first) R1 (brokenFrom2 z b (R7 (by .told))))
+    → Lowest by z b (unless (by .first) R1 (unless (rules2to6 z b) (broken2to6 z b) (R7 (by .told))))
 named by z b broken =
+    let r2 = each (rule2At b) (z .tasks) in
+    let r4 = each (rule4At z b) (z .messages) in
+    let r5 = each (rule5At z b) (z .tasks) in
+    let r6 = each (rule6At b) (z .tasks) in
     lowest-unless by z b 0 R1 _ refl refl (λ e. (e, λ n h. omega arith))
-    (λ h. lowest-unless by z b 1 (R2 _) _ h refl (smallest (rule2At b) (z .tasks))
+    (λ h. subst (Lowest by z b) (sym (in-a-row r2 (rule3 z b) r4 r5 r6 _ _ _ _ _ (R7 (by .told))))
+    (lowest-unless by z b 1 (R2 _) _ h refl (smallest (rule2At b) (z .tasks))
     (λ h. lowest-unless by z b 2 R3 _ h refl (λ e. (e, λ n h. omega arith))
     (λ h. lowest-unless by z b 3 (R4 _) _ h refl (smallest (rule4At z b) (z .messages))
     (λ h. lowest-unless by z b 4 (R5 _) _ h refl (smallest (rule5At z b) (z .tasks))
     (λ h. lowest-unless by z b 5 (R6 _) _ h refl (smallest (rule6At b) (z .tasks))
-    (λ h. let e = refuted (by .last) (λ e. true≢false (sym (and-true (by .first && rules2to6 z b) (by .last) (regrouped (by .first) (each (rule2At b) (z .tasks)) (rule3 z b)
-    (each (rule4At z b) (z .messages)) (each (rule5At z b) (z .tasks)) (each (rule6At b) (z .tasks)) h) e) ∙ broken)) in
-    lowest-of by z b (R7 _) h ((refl, e), λ n (w, g). omega arith)))))))
+    (λ h. let six = regrouped (by .first) r2 (rule3 z b) r4 r5 r6 h in
+    let e = refuted (by .last) (λ e. true≢false (sym (and-true (by .first && rules2to6 z b) (by .last) six e) ∙ broken)) in
+    lowest-of by z b (R7 _) h ((refl, e), λ n (w, g). omega arith))))))))
 
 pub lowest-is-named : LowestIsNamed
 lowest-is-named z b = (named (today z b) z b, named (old z b) z b)

@@ -16,7 +16,7 @@ use Rattle.board.specs.Writes.{putRunning}
 use Rattle.paper.specs.declared.answer.Rule.{Rule}
 use Rattle.paper.specs.declared.answer.Rule.the-variants.{R1, R7}
 use Rattle.paper.specs.Rules.{firstReady, rule1, rules2to6}
-use Rattle.paper.specs.Named.{unless, brokenFrom2}
+use Rattle.paper.specs.Named.{unless, broken2to6}
 use Rattle.paper.specs.Refusals.{Test, no1, no2By, lowest}
 use Rattle.paper.specs.Outcomes.{Outcome, judge, accepted}
 
@@ -31,7 +31,7 @@ abbrev pub oldPasses : Size → Board → Bool
 oldPasses z b = oldRule1 b && rules2to6 z b && oldRule7 z b
 
 abbrev pub oldBroken : Size → Board → Rule
-oldBroken z b = unless (oldRule1 b) R1 (brokenFrom2 z b (R7 (firstReady z b)))
+oldBroken z b = unless (oldRule1 b) R1 (unless (rules2to6 z b) (broken2to6 z b) (R7 (firstReady z b)))
 
 abbrev pub oldNo2 : Size → Board → Test
 oldNo2 z b = no2By (oldBroken z b) (oldPasses z b)

@@ -1,9 +1,8 @@
 -- What the functions of sends answer and leave, in plain variables: what send writes into a message, a message passed on as it
 -- is, and the calls that place.
 -- Assumes nothing.
-use mathlib.Core.Path.{_≡_, refl, sym, _∙_, subst}
+use mathlib.Core.Path.{_≡_, refl, sym, ap, _∙_, subst}
 use mathlib.Core.Logic.{_≢_}
-use mathlib.Core.Bool.{true}
 use mathlib.Core.List.{List, [], _∷_}
 use Prim.Native.Nat.{ℕ}
 use borrow.Author.Tests.{eq-eqb, ne-eqb}
@@ -20,14 +19,13 @@ use Rattle.board.specs.Board.{Board, boardOf, task, message}
 use Rattle.paper.specs.declared.call.Call.{Call}
 use Rattle.paper.specs.declared.call.Call.the-variants.{Send}
 use Rattle.paper.specs.declared.answer.Refusal.the-variants.{NoSuchTask, BadPriority}
-use Rattle.paper.specs.Rules.{running}
 use Rattle.paper.specs.Refusals.{no3, no4, no5, no6, no7, ownRow, lowest}
 use Rattle.stores.specs.declared.Held.{Held}
 use Rattle.stores.specs.declared.Held.the-variants as held
 use Rattle.stores.specs.declared.Body.{Body}
 use Rattle.stores.specs.declared.Body.the-variants.{Done, Stopped}
 use Rattle.stores.specs.Effects.{placeAt, addressedAs, send, passOn}
-use Rattle.stores.specs.Answers.{heldOf, presentMeant, Stored, leaves, Makes, replyBy}
+use Rattle.stores.specs.Answers.{heldOf, presentMeant, Stored, stirs, Makes, replyBy}
 use Rattle.stores.specs.Calls.{body, verdict, stepping, passing}
 use Rattle.paper.proofs.Rows.{lowest-stop, lowest-on}
 use Rattle.inner.proofs.Rows.{task-row, no-task-row}
@@ -45,7 +43,7 @@ module _ (z : Size) (l : List ℕ) (m w : ℕ) {to : TaskMeant} (et : to ≡ pre
   b = boardOf z l
 
   abbrev passed : Stored
-  passed = leaves 0 (passOn z l m w)
+  passed = stirs 0 w (passOn z l m w)
 
   -- 6: none
   pub pass-no-task : to ≡ who.NoTask → Makes (Stopped NoSuchTask) l (passing z l m w)
@@ -65,19 +63,19 @@ module _ (z : Size) (l : List ℕ) (m w : ℕ) {to : TaskMeant} (et : to ≡ pre
         stopped-by l passed (there ∙ lowest-stop (no7 b m) [] (eq-eqb (number (message b m .prio)) 127 (sym prio ∙ e))) refl
 
     -- it is placed
-    pub passes : {d : List ℕ} → p ≢ 127 → d ≡ placeAt z l m u (n .0) → Makes (Done 0 true) d (passing z l m w)
+    pub passes : {d : List ℕ} → p ≢ 127 → d ≡ placeAt z l m u (n .0) → Makes (Done 0 (who.Task n)) d (passing z l m w)
     passes h ed =
         let t = task-row z b w n (sym et ∙ en) .1 in
         done-by l passed (there ∙ lowest-on (no7 b m) [] (ne-eqb (number (message b m .prio)) 127 (λ e. h (prio ∙ e)))) refl
-        (ed ∙ (λ i. placeAt z l m (eu i) (t i .0)))
+        (ap who.Task t) (ed ∙ (λ i. placeAt z l m (eu i) (t i .0)))
 
 -- ---- resend, forward, return
 -- a call whose row ends with 6 and 7 and whose body passes m on to the task `to m`: the message held is passed on to w
 pub passes-on : (z : Size) (l : List ℕ) (call : Call) (m : ℕ) (to : ℕ → ℕ)
-    → (let b = boardOf z l in let c = running z b in
+    → (let b = boardOf z l in let c = b .running in
     ownRow z b c call ≡ no3 c ∷ no4 z m ∷ no5 b c m ∷ no6 z b (to m) ∷ no7 b m ∷ [])
-    → body z l (running z (boardOf z l)) call ≡ leaves 0 (passOn z l m (to m)) → {h : Held}
-    → h ≡ heldOf z (boardOf z l) (running z (boardOf z l)) m → {k : TaskNo} {one : MsgNo} → h ≡ held.By k one → {w : ℕ}
+    → body z l (boardOf z l .running) call ≡ stirs 0 (to m) (passOn z l m (to m)) → {h : Held}
+    → h ≡ heldOf z (boardOf z l) (boardOf z l .running) m → {k : TaskNo} {one : MsgNo} → h ≡ held.By k one → {w : ℕ}
     → w ≡ to (one .0) → {x : Body} {d : List ℕ} → Makes x d (passing z l (one .0) w) → Makes x d (stepping z l call)
 passes-on z l call m to row is eh by ew {x = x} {d = d} made =
     let b = boardOf z l in
@@ -86,12 +84,12 @@ passes-on z l call m to row is eh by ew {x = x} {d = d} made =
     subst (Makes x d) ((λ i. passing z l (g .2 i .0) (at i)) ∙ (λ i. replyBy (sym (g .0) i) l (sym is i))) made
 
 -- ---- send: c holds the message as `one`, and to is the task that r means
-module _ (z : Size) (l : List ℕ) (m r : ℕ) {h : Held} (eh : h ≡ heldOf z (boardOf z l) (running z (boardOf z l)) m)
+module _ (z : Size) (l : List ℕ) (m r : ℕ) {h : Held} (eh : h ≡ heldOf z (boardOf z l) (boardOf z l .running) m)
     {c : TaskNo} {one : MsgNo} (by : h ≡ held.By c one) {to : TaskMeant} (et : to ≡ presentMeant z (boardOf z l) r) where
   abbrev board : Board
   board = boardOf z l
 
-  goes : (verdict z l (Send m r) ≡ lowest (no6 z board r ∷ [])) × (c ≡ taskNo (running z board)) × (one ≡ record { 0 = m })
+  goes : (verdict z l (Send m r) ≡ lowest (no6 z board r ∷ [])) × (c ≡ taskNo (board .running)) × (one ≡ record { 0 = m })
   goes = held-goes z l (Send m r) m (no6 z board r ∷ []) refl eh by
 
   -- 6: none
@@ -100,8 +98,8 @@ module _ (z : Size) (l : List ℕ) (m r : ℕ) {h : Held} (eh : h ≡ heldOf z (
 
   -- it is n: the message is sent to it
   pub sends : {n : TaskNo} {d : List ℕ} → to ≡ who.Task n → d ≡ send z l (c .0) (one .0) (n .0)
-      → Makes (Done 0 true) d (stepping z l (Send m r))
+      → Makes (Done 0 (who.Task n)) d (stepping z l (Send m r))
   sends {n = n} en ed =
       let t = task-row z board r n (sym et ∙ en) in
-      does z l (Send m r) (goes .0 ∙ lowest-on (no6 z board r) [] (t .0)) refl
+      does z l (Send m r) (goes .0 ∙ lowest-on (no6 z board r) [] (t .0)) refl (ap who.Task (t .1))
       (ed ∙ (λ i. send z l (goes .1 i .0) (goes .2 i .0) (t .1 i .0)))

@@ -47,7 +47,7 @@ pub fn send(z: Size, l: &mut [u8], c: TaskMeant, m: u16, r: u16) -> Body
             send_to(z, l, k, one, n);
             Body::Done {
                 value: 0,
-                stirs: true,
+                stirred: TaskMeant::Task(n),
             }
         }
     }
@@ -69,7 +69,7 @@ fn pass_on(z: Size, l: &mut [u8], m: MsgNo, w: u16) -> Body
     place(z, l, m, u, n);
     Body::Done {
         value: 0,
-        stirs: true,
+        stirred: TaskMeant::Task(n),
     }
 }
 

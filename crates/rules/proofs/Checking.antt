@@ -1,4 +1,4 @@
--- The check as a whole: the first rule that fails is the one that is named, and where all hold the task that R3's walk met runs.
+-- R2 to R6 together: the first rule that fails is the one that is named, and where all hold R3's walk met the first ready task.
 -- Assumes nothing.
 use mathlib.Core.Path.{_≡_, refl, sym, ap, _∙_}
 use mathlib.Core.Bool.{Bool, true, false, cond, not, true≢false}
@@ -22,8 +22,8 @@ use Rattle.board.specs.Board.{Board, boardOf, task}
 use Rattle.board.proofs.Pieces.{nth-outside}
 use Rattle.board.proofs.Codec.{length-tasks}
 use Rattle.board.proofs.Meant.{taskMeant-task, taskMeant-none}
-use Rattle.paper.specs.declared.answer.Rule.the-variants.{R1, R2, R3, R4, R5, R6, R7}
-use Rattle.paper.specs.Rules.{present, running, rule1, rule2At, rule3, rule4At, rule5At, rule6At, rule7}
+use Rattle.paper.specs.declared.answer.Rule.the-variants.{R2, R3, R4, R5, R6}
+use Rattle.paper.specs.Rules.{present, firstReady, rule2At, rule3, rule4At, rule5At, rule6At}
 use Rattle.order_rules.specs.declared.tasks.Order.{Order}
 use Rattle.order_rules.specs.declared.tasks.Order.the-variants as order
 use Rattle.order_rules.specs.Order.{orderFrom, listedBy}
@@ -33,8 +33,8 @@ use Rattle.queue_rules.proofs.Lists.{rule5-counted}
 use Rattle.queue_rules.proofs.Breaking.{breaking-none, breaking-task, breaking-nobody, breaking-message, breaking-nothing}
 use Rattle.rules.specs.declared.records.Tasks.{Tasks}
 use Rattle.rules.specs.declared.records.Messages.{Messages}
-use Rattle.rules.specs.declared.Checked.the-variants.{Broken, Passes}
-use Rattle.rules.specs.Checked.{messagesIf, messagesSeen, tasksIf, tasksSeen, due, checkedOf}
+use Rattle.rules.specs.declared.Between.the-variants as between
+use Rattle.rules.specs.Checked.{messagesIf, messagesSeen, tasksIf, tasksSeen, betweenOf}
 
 -- ---- R3's answer
 -- is it broken
@@ -42,18 +42,18 @@ abbrev isBroken : Order → Bool
 isBroken order.Broken = true
 isBroken (order.Listed c) = false
 
--- who runs, d where it is broken
-abbrev runnerOr : TaskMeant → Order → TaskMeant
-runnerOr d order.Broken = d
-runnerOr d (order.Listed c) = c
+-- the first ready task, d where it is broken
+abbrev firstOr : TaskMeant → Order → TaskMeant
+firstOr d order.Broken = d
+firstOr d (order.Listed c) = c
 
 answer-broken : (t : Bool) (c : TaskMeant) → isBroken (cond t (order.Listed c) order.Broken) ≡ not t
 answer-broken true c = refl
 answer-broken false c = refl
 
-answer-runner : (t : Bool) (c : TaskMeant) → runnerOr c (cond t (order.Listed c) order.Broken) ≡ c
-answer-runner true c = refl
-answer-runner false c = refl
+answer-first : (t : Bool) (c : TaskMeant) → firstOr c (cond t (order.Listed c) order.Broken) ≡ c
+answer-first true c = refl
+answer-first false c = refl
 
 not-back : (s t : Bool) → not s ≡ t → s ≡ not t
 not-back true t e = ap not e
@@ -76,36 +76,28 @@ module _ (z : Size) (l : List ℕ) where
   abbrev r6 : Bool
   r6 = each (rule6At b) (z .tasks)
 
-  -- ---- the first rule that fails, with the record
-  pub breaks1 : rule1 b ≡ false → Broken R1 ≡ checkedOf z b
-  breaks1 e = rw e
+  -- ---- R2 to R6: the first that fails, with the record
+  pub breaks2 : {k : TaskNo} → r2 ≡ false → k ≡ taskNo (smallestFailing (rule2At b) (z .tasks)) → between.Broken (R2 k) ≡ betweenOf z b
+  breaks2 e n = rw (e, n)
 
-  module _ (h1 : rule1 b ≡ true) where
-    pub breaks2 : {k : TaskNo} → r2 ≡ false → k ≡ taskNo (smallestFailing (rule2At b) (z .tasks)) → Broken (R2 k) ≡ checkedOf z b
-    breaks2 e n = rw (h1, e, n)
+  module _ (h2 : r2 ≡ true) where
+    pub breaks3 : rule3 z b ≡ false → between.Broken R3 ≡ betweenOf z b
+    breaks3 e = rw (h2, e)
 
-    module _ (h2 : r2 ≡ true) where
-      pub breaks3 : rule3 z b ≡ false → Broken R3 ≡ checkedOf z b
-      breaks3 e = rw (h1, h2, e)
+    module _ (h3 : rule3 z b ≡ true) where
+      pub breaks4 : {m : MsgNo} → r4 ≡ false → m ≡ msgNo (smallestFailing (rule4At z b) (z .messages)) → between.Broken (R4 m) ≡ betweenOf z b
+      breaks4 e n = rw (h2, h3, e, n)
 
-      module _ (h3 : rule3 z b ≡ true) where
-        pub breaks4 : {m : MsgNo} → r4 ≡ false → m ≡ msgNo (smallestFailing (rule4At z b) (z .messages)) → Broken (R4 m) ≡ checkedOf z b
-        breaks4 e n = rw (h1, h2, h3, e, n)
+      module _ (h4 : r4 ≡ true) where
+        pub breaks5 : {k : TaskNo} → r5 ≡ false → k ≡ taskNo (smallestFailing (rule5At z b) (z .tasks)) → between.Broken (R5 k) ≡ betweenOf z b
+        breaks5 e n = rw (h2, h3, h4, e, n)
 
-        module _ (h4 : r4 ≡ true) where
-          pub breaks5 : {k : TaskNo} → r5 ≡ false → k ≡ taskNo (smallestFailing (rule5At z b) (z .tasks)) → Broken (R5 k) ≡ checkedOf z b
-          breaks5 e n = rw (h1, h2, h3, h4, e, n)
+        module _ (h5 : r5 ≡ true) where
+          pub breaks6 : {k : TaskNo} → r6 ≡ false → k ≡ taskNo (smallestFailing (rule6At b) (z .tasks)) → between.Broken (R6 k) ≡ betweenOf z b
+          breaks6 e n = rw (h2, h3, h4, h5, e, n)
 
-          module _ (h5 : r5 ≡ true) where
-            pub breaks6 : {k : TaskNo} → r6 ≡ false → k ≡ taskNo (smallestFailing (rule6At b) (z .tasks)) → Broken (R6 k) ≡ checkedOf z b
-            breaks6 e n = rw (h1, h2, h3, h4, h5, e, n)
-
-            module _ (h6 : r6 ≡ true) where
-              pub breaks7 : {k : TaskNo} → rule7 z b ≡ false → k ≡ taskNo (running z b) → Broken (R7 k) ≡ checkedOf z b
-              breaks7 e n = rw (h1, h2, h3, h4, h5, h6, e, n)
-
-              pub all-hold : {c : TaskMeant} → rule7 z b ≡ true → c ≡ taskMeant z (running z b) → Passes c ≡ checkedOf z b
-              all-hold e n = rw (h1, h2, h3, h4, h5, h6, e, n)
+          pub all-hold : {f : TaskMeant} → r6 ≡ true → f ≡ taskMeant z (firstReady z b) → between.Kept f ≡ betweenOf z b
+          all-hold e n = rw (h2, h3, h4, h5, e, n)
 
   -- ---- what the look at the tasks tells
   module _ {x : Tasks} (ex : x ≡ tasksSeen z b) where
@@ -172,38 +164,5 @@ module _ (z : Size) (l : List ℕ) where
     pub in-order : rule3 z b ≡ true
     in-order = not-back (rule3 z b) false (sym (answer-broken (rule3 z b) _) ∙ ap isBroken (sym e))
 
-    pub runs : c ≡ taskMeant z (running z b)
-    runs = ap (runnerOr (taskMeant z (running z b))) e ∙ answer-runner (rule3 z b) (taskMeant z (running z b))
-
-    -- ---- and R7 of the task that it met
-    no-such : (w : ℕ) → outside (z .tasks) w ≡ true → task b w ≡ noTask
-    no-such w o = nth-outside noTask (b .tasks) w (ap (λ (n : ℕ). outside n w) (length-tasks z l) ∙ o)
-
-    due-of : (w : ℕ) → due b (taskMeant z w) ≡ cond (has (task b w .stat) MHBS) (taskMeant z w) NoTask
-    due-of w = go (outside (z .tasks) w) refl
-      where
-        go : (t : Bool) → outside (z .tasks) w ≡ t
-            → due b (cond t NoTask (Task (taskNo w))) ≡ cond (has (task b w .stat) MHBS) (cond t NoTask (Task (taskNo w))) NoTask
-        go true o = rw (no-such w o)
-        go false o = refl
-
-    module _ {t : TaskMeant} (et : t ≡ due b c) where
-      seen7 : t ≡ cond (has (task b (running z b) .stat) MHBS) (taskMeant z (running z b)) NoTask
-      seen7 = et ∙ ap (due b) runs ∙ due-of (running z b)
-
-      pub broken7 : {k : TaskNo} → t ≡ Task k → (rule7 z b ≡ false) × (k ≡ taskNo (running z b))
-      broken7 {k = k} d = go (has (task b (running z b) .stat) MHBS) refl (sym seen7 ∙ d)
-        where
-          go : (s : Bool) → has (task b (running z b) .stat) MHBS ≡ s → cond s (taskMeant z (running z b)) NoTask ≡ Task k
-              → (rule7 z b ≡ false) × (k ≡ taskNo (running z b))
-          go true h i = (ap not h, taskMeant-task z (running z b) k i .1)
-          go false h i = let f : _≡_ {A = ℕ} 0 1 = cc in absurd (omega arith)
-
-      pub kept7 : t ≡ NoTask → rule7 z b ≡ true
-      kept7 d = go (has (task b (running z b) .stat) MHBS) refl (sym seen7 ∙ d)
-        where
-          go : (s : Bool) → has (task b (running z b) .stat) MHBS ≡ s → cond s (taskMeant z (running z b)) NoTask ≡ NoTask
-              → rule7 z b ≡ true
-          go true h i =
-              absurd (true≢false (sym h ∙ ap (λ (u : board.Task). has (u .stat) MHBS) (no-such (running z b) (taskMeant-none z (running z b) i))))
-          go false h i = ap not h
+    pub first-met : c ≡ taskMeant z (firstReady z b)
+    first-met = ap (firstOr (taskMeant z (firstReady z b))) e ∙ answer-first (rule3 z b) (taskMeant z (firstReady z b))

@@ -1,2 +1,3 @@
 mod Turns
-pub mod Checking
+mod Checking
+mod Runs

@@ -25,13 +25,12 @@ use Rattle.rules.specs.Checked.{messagesOf, messagesIf, messagesSeen, ta
 
 -- ---- bytes 1 to 3
 -- they are read one by one, as 0 past the end
-pub zeros-read : (l : List ℕ)
-    → eqb (getD l 1 0) 0 && allZero (take 2 (drop 2 l)) ≡ eqb (getD l 1 0) 0 && (eqb (getD l 2 0) 0 && eqb (getD l 3 0) 0)
+pub zeros-read : (l : List ℕ) → allZero (take 2 (drop 2 l)) ≡ eqb (getD l 2 0) 0 && eqb (getD l 3 0) 0
 zeros-read [] = refl
 zeros-read (x ∷ []) = refl
 zeros-read (x ∷ y ∷ []) = refl
 zeros-read (x ∷ y ∷ u ∷ []) = refl
-zeros-read (x ∷ y ∷ u ∷ v ∷ l) = ap (λ (t : Bool). eqb y 0 && (eqb u 0 && t)) (bool.and-true (eqb v 0))
+zeros-read (x ∷ y ∷ u ∷ v ∷ l) = ap (λ (t : Bool). eqb u 0 && t) (bool.and-true (eqb v 0))
 
 -- ---- a look at every message
 module _ (z : Size) (b : Board) where

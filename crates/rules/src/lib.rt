@@ -1,25 +1,33 @@
 // CODE. The check of a board: does it keep R1 to R7, and who runs, or which rule is broken and at which record? Each answer is proved to be
 // the definition's (paper, Rules and Named). Each record is looked at a bounded number of times and each queue walked once, and once more
-// where R5 is broken; the looks at the records count for R3 and R5.
+// where R5 is broken; the looks at the records count for R3 and R5. The rules of today and those of saved boards (paper, Conversion) share
+// R2 to R6.
 pub mod records;
+pub mod runner;
 
 ghost use mathlib.Core.Path.{_≡_};
 ghost use Prim.Native.Nat.{_≤_, _<_};
-ghost use lib.ListN.{length};
+ghost use lib.ListN.{length, getD, take, drop};
 ghost use Rattle.board.specs.Board.{total, boardOf};
-ghost use Rattle.rules.specs.Checked.{due, checkedOf};
+ghost use Rattle.rules.specs.Checked.{betweenOf, rule1Of, checkedOf};
 use crate::records::rule1;
 use crate::records::survey_messages;
 use crate::records::survey_tasks;
+use crate::runner::rule7_of;
 use board::numbers::MessageMeant;
 use board::numbers::Size;
 use board::numbers::TaskMeant;
-use board::status::Status;
-use lent::bytes::task_at;
+use lent::bytes::byte;
 use order_rules::tasks::Order;
 use order_rules::tasks::rule3;
 use paper::answer::Rule;
 use queue_rules::rule5;
+
+// Which rules: those of today, or those by which boards were saved before.
+pub enum Edition {
+    Today,
+    Old,
+}
 
 // What the check found: a broken rule and the record, or that this task runs.
 pub enum Checked {
@@ -27,54 +35,68 @@ pub enum Checked {
     Passes(TaskMeant),
 }
 
-// R7, where c runs: c if it is due a message.
-fn rule7(z: Size, l: &[u8], c: TaskMeant) -> TaskMeant
-    requires { ⌜ total z ≤ length (now l) ⌝ }
-    ensures { λ res. ⌜ res ≡ due (boardOf z (now (l .entry))) c ⌝ }
-{
-    let TaskMeant::Task(k) = c else {
-        return TaskMeant::NoTask;
-    };
-    let t = task_at(z, l, k);
-    let s = t.stat;
-    if s.has(Status::MHBS) {
-        return c;
-    }
-    TaskMeant::NoTask
+// What R2 to R6 come to: a broken rule and the record, or that they hold and this is the first ready task.
+pub enum Between {
+    Broken(Rule),
+    Kept(TaskMeant),
 }
 
-pub fn check_rules(z: Size, l: &[u8]) -> Checked
+// R2 to R6, the same in both editions.
+fn check_2_to_6(z: Size, l: &[u8]) -> Between
     requires { ⌜ (total z ≤ length (now l)) × (z .tasks < 256) ⌝ }
-    ensures { λ res. ⌜ res ≡ checkedOf z (boardOf z (now (l .entry))) ⌝ }
+    ensures { λ res. ⌜ res ≡ betweenOf z (boardOf z (now (l .entry))) ⌝ }
 {
-    if !rule1(l) {
-        return Checked::Broken(Rule::R1);
-    }
     let tasks = survey_tasks(z, l);
     let breaks2 = tasks.breaks2;
     if let TaskMeant::Task(k) = breaks2 {
-        return Checked::Broken(Rule::R2(k));
+        return Between::Broken(Rule::R2(k));
     }
     let order = rule3(z, l, tasks.present);
-    let Order::Listed(c) = order else {
-        return Checked::Broken(Rule::R3);
+    let Order::Listed(first) = order else {
+        return Between::Broken(Rule::R3);
     };
     let messages = survey_messages(z, l);
     let breaks4 = messages.breaks4;
     if let MessageMeant::Message(m) = breaks4 {
-        return Checked::Broken(Rule::R4(m));
+        return Between::Broken(Rule::R4(m));
     }
     let breaks5 = rule5(z, l, messages.queued);
     if let TaskMeant::Task(k) = breaks5 {
-        return Checked::Broken(Rule::R5(k));
+        return Between::Broken(Rule::R5(k));
     }
     let breaks6 = tasks.breaks6;
     if let TaskMeant::Task(k) = breaks6 {
-        return Checked::Broken(Rule::R6(k));
+        return Between::Broken(Rule::R6(k));
     }
-    let breaks7 = rule7(z, l, c);
-    if let TaskMeant::Task(k) = breaks7 {
-        return Checked::Broken(Rule::R7(k));
+    Between::Kept(first)
+}
+
+// R1: bytes 2 and 3 are zero; byte 1 too where boards were saved.
+fn rule1_of(edition: Edition, l: &[u8]) -> bool
+    ensures { λ res. ⌜ res ≡ rule1Of edition (getD (now (l .entry)) 1 0) (take 2 (drop 2 (now (l .entry)))) ⌝ }
+{
+    match edition {
+        Edition::Today => rule1(l),
+        Edition::Old => {
+            if byte(l, 1) != 0 {
+                return false;
+            }
+            rule1(l)
+        }
     }
-    Checked::Passes(c)
+}
+
+// The check by the rules of this edition. There is one for both, so that the library has it once and compiled for its size.
+pub fn check_rules(edition: Edition, z: Size, l: &[u8]) -> Checked
+    requires { ⌜ (total z ≤ length (now l)) × (z .tasks < 256) ⌝ }
+    ensures { λ res. ⌜ res ≡ checkedOf edition z (boardOf z (now (l .entry))) ⌝ }
+{
+    if !rule1_of(edition, l) {
+        return Checked::Broken(Rule::R1);
+    }
+    let between = check_2_to_6(z, l);
+    match between {
+        Between::Broken(r) => Checked::Broken(r),
+        Between::Kept(first) => rule7_of(edition, z, l, first),
+    }
 }

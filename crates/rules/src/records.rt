@@ -1,9 +1,9 @@
 // R1, R2, R4 and R6: the rules that ask each record by itself.
-ghost use mathlib.Core.Bool.{cond, _&&_};
+ghost use mathlib.Core.Bool.{cond};
 ghost use mathlib.Core.Path.{_≡_};
 ghost use Prim.Native.Nat.{_≤_};
 ghost use lib.Dec.{eqb};
-ghost use lib.ListN.{length, getD, take, drop};
+ghost use lib.ListN.{length, take, drop};
 ghost use Rattle.board.specs.Numbers.{taskMeant};
 ghost use Rattle.board.specs.Board.{total, boardOf};
 ghost use Rattle.paper.specs.Rules.{present, allZero, goodMessage, goodFlags};
@@ -41,11 +41,8 @@ pub struct Messages {
 }
 
 pub fn rule1(l: &[u8]) -> bool
-    ensures { λ res. ⌜ res ≡ eqb (getD (now (l .entry)) 1 0) 0 && allZero (take 2 (drop 2 (now (l .entry)))) ⌝ }
+    ensures { λ res. ⌜ res ≡ allZero (take 2 (drop 2 (now (l .entry)))) ⌝ }
 {
-    if byte(l, 1) != 0 {
-        return false;
-    }
     if byte(l, 2) != 0 {
         return false;
     }

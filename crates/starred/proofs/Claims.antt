@@ -22,7 +22,7 @@ use Rattle.paper.specs.declared.call.Call.{Call}
 use Rattle.paper.specs.declared.call.Call.the-variants.{Claim}
 use Rattle.paper.specs.declared.answer.Refusal.the-variants.{WrongLength, RuleBroken, NoneFree}
 use Rattle.paper.specs.Answers.{Handed, handed}
-use Rattle.paper.specs.Rules.{present, running, nextMessage, messageNumber, goodMessage, rule4At, rule5At, passes}
+use Rattle.paper.specs.Rules.{present, nextMessage, messageNumber, goodMessage, rule4At, rule5At, passes}
 use Rattle.paper.specs.Effects.{lowestFree}
 use Rattle.paper.specs.Named.{brokenRule}
 use Rattle.paper.specs.Refusals.{no3, test, lowest}
@@ -38,7 +38,7 @@ abbrev held : Place
 held = HeldBy (taskNo 1)
 
 abbrev lone : List Place → Board
-lone ps = board 1 0 (0 ∷ 0 ∷ []) (loneTask ∷ replicate 31 noTask) (replicate 128 noMessage) ps
+lone ps = board 1 1 (0 ∷ 0 ∷ []) (loneTask ∷ replicate 31 noTask) (replicate 128 noMessage) ps
 
 abbrev pub bytes : List Place → List ℕ
 bytes ps = bytesOf (lone ps)
@@ -124,7 +124,7 @@ each-true f h (suc n) = ap₂ (λ (s t : Bool). s && t) (each-true f h n) (h (su
 
 lone-passes : (ps : List Place) → Few ps → passes small (lone ps) ≡ true
 lone-passes ps h =
-    ap₂ (λ (s t : Bool). true && s && t && true && true) (each-true (rule4At small (lone ps)) (rule4-holds ps h) 128)
+    ap₂ (λ (s t : Bool). true && (s && t && true) && true) (each-true (rule4At small (lone ps)) (rule4-holds ps h) 128)
     (each-true (rule5At small (lone ps)) (rule5-holds ps h) 32)
 
 -- ---- its bytes are that board
@@ -164,7 +164,7 @@ claimed-by ps t u w m =
 claim-gives : (ps : List Place) (i : ℕ) → length ps ≡ 128 → Few ps → lowestFree (lone ps) ≡ suc i
     → effect small (bytes ps) Claim ≡ accepted (suc i) 1 0 (bytes (set ps i held))
 claim-gives ps i n h e =
-    ap (λ (b : Board). called small (bytes ps) b (running small b) Claim) (reads ps n h)
+    ap (λ (b : Board). called small (bytes ps) b (b .running) Claim) (reads ps n h)
     ∙ (λ j. claimed-by ps (right-length ps n j) (lone-passes ps h j) (eqb (e j) 0) (e j))
     ∙ ap (λ (w : Bool). claimed-by ps true true w (suc i)) (ne-eqb (suc i) 0 (λ q. omega arith))
 

@@ -1,4 +1,5 @@
--- Document 01, 'Worked boards', those marked *: the table, and what it claims. A reader must believe this file.
+-- Document 01, 'Worked boards', those marked *, as document 02 has them now: the table, and what it claims. A reader must believe
+-- this file.
 --   Row          calls that set the fresh small board up, calls, what each hands back, and what is seen on the board then
 --   Holds r      the row is true of the definitions
 --   Starred      every row of the table holds
@@ -55,12 +56,13 @@ abbrev pub refuses : ℕ → Handed
 refuses n = record { number = n; value = 0; running = 0; delivered = 0; rule = 0; recordNo = 0 }
 
 -- ---- the rows, in the paper's order
+-- with the running task in byte 1: document 02, Ask 3
 abbrev pub freshInstall : Row
 freshInstall = record {
   before = [];
   calls = Install 3 0x05 0x33 0x1234 0x4154 ∷ [];
   answers = accepts 0 3 0 ∷ [];
-  seen = Bytes (3 ∷ replicate 23 0 ++ (0x05 ∷ 0x33 ∷ 0 ∷ 0 ∷ 0 ∷ 0 ∷ 0x34 ∷ 0x12 ∷ 0x54 ∷ 0x41 ∷ replicate 1442 0));
+  seen = Bytes (3 ∷ 3 ∷ replicate 22 0 ++ (0x05 ∷ 0x33 ∷ 0 ∷ 0 ∷ 0 ∷ 0 ∷ 0x34 ∷ 0x12 ∷ 0x54 ∷ 0x41 ∷ replicate 1442 0));
 }
 
 -- a lone task of priority 25

@@ -3,6 +3,7 @@ ghost use mathlib.Core.Path.{_≡_};
 ghost use Rattle.board.specs.Numbers.{small};
 ghost use Rattle.paper.specs.Answers.{handed};
 ghost use Rattle.paper.specs.Outcomes.{Outcome, fresh, check};
+ghost use Rattle.paper.specs.Conversion.{convert};
 ghost use Rattle.for_c.specs.Packed.{packed};
 ghost use Rattle.for_c.specs.Asked.{askedOf};
 ghost use Rattle.station.specs.Called.{wordFor, leftFor};
@@ -22,6 +23,13 @@ pub extern "C" fn station_check(board: &[u8]) -> u64
     ensures { λ res. ⌜ res ≡ packed (handed (check small (now (board .entry)) .answer)) ⌝ }
 {
     pack(crate::check(board))
+}
+
+#[no_mangle]
+pub extern "C" fn station_convert(board: &mut [u8]) -> u64
+    ensures { λ res. ⌜ (res ≡ packed (handed (convert small (now (board .entry)) .answer))) × (now (board .exit) ≡ convert small (now (board .entry)) .after) ⌝ }
+{
+    pack(crate::convert(board))
 }
 
 // A kind that is no call is told at once, with a number that no refusal has.

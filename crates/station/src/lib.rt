@@ -9,13 +9,16 @@ ghost use lib.Dec.{eqb};
 ghost use Prim.Native.Nat.{_≤_};
 ghost use Rattle.board.specs.Board.{total, boardOf};
 ghost use Rattle.paper.specs.Outcomes.{Ends, effect, fresh, check};
+ghost use Rattle.paper.specs.Conversion.{convert};
 ghost use Rattle.rules.specs.Checked.{checkedOf};
 use board::numbers::Size;
 use calls::make_call;
+use lent::bytes::put_running;
 use paper::answer::Answer;
 use paper::answer::Refusal;
 use paper::call::Call;
 use rules::Checked;
+use rules::Edition;
 use rules::check_rules;
 
 // The board is made all zeros, whatever it held: accepted with three zeros, or 1.
@@ -44,7 +47,7 @@ pub fn check(l: &[u8]) -> Answer
     if !sized(l) {
         return Answer::Refused(Refusal::WrongLength);
     }
-    let checked = checked_small(l);
+    let checked = checked_small(Edition::Today, l);
     match checked {
         Checked::Broken(r) => Answer::Refused(Refusal::RuleBroken(r)),
         Checked::Passes(c) => Answer::Accepted {
@@ -55,6 +58,28 @@ pub fn check(l: &[u8]) -> Answer
     }
 }
 
+// A saved board of the time when byte 1 was zero: accepted with the task that ran then, which byte 1 now holds, or 1, or 2 where an old rule
+// is broken. Nothing else is changed.
+pub fn convert(l: &mut [u8]) -> Answer
+    ensures { λ res. ⌜ Ends res (now (l .exit)) (convert small (now (l .entry))) ⌝ }
+{
+    if !sized(l) {
+        return Answer::Refused(Refusal::WrongLength);
+    }
+    let checked = checked_small(Edition::Old, l);
+    match checked {
+        Checked::Broken(r) => Answer::Refused(Refusal::RuleBroken(r)),
+        Checked::Passes(c) => {
+            put_running(l, c);
+            Answer::Accepted {
+                value: 0,
+                running: c.number(),
+                delivered: 0,
+            }
+        }
+    }
+}
+
 // A call: document 01's effect of it on these bytes, whatever they are.
 pub fn step(l: &mut [u8], call: Call) -> Answer
     ensures { λ res. ⌜ Ends res (now (l .exit)) (effect small (now (l .entry)) call) ⌝ }
@@ -62,19 +87,20 @@ pub fn step(l: &mut [u8], call: Call) -> Answer
     if !sized(l) {
         return Answer::Refused(Refusal::WrongLength);
     }
-    let checked = checked_small(l);
+    let checked = checked_small(Edition::Today, l);
     match checked {
         Checked::Broken(r) => Answer::Refused(Refusal::RuleBroken(r)),
         Checked::Passes(c) => make_call(Size::SMALL, l, c, call),
     }
 }
 
-// Who runs on a board that keeps R1 to R7. The one place where the library asks the check, so that it is compiled for this size.
-fn checked_small(l: &[u8]) -> Checked
+// Who runs on a board that keeps R1 to R7 of this edition. The one place where the library asks the check, so that it is compiled for this
+// size.
+fn checked_small(edition: Edition, l: &[u8]) -> Checked
     requires { ⌜ total small ≤ length (now l) ⌝ }
-    ensures { λ res. ⌜ res ≡ checkedOf small (boardOf small (now (l .entry))) ⌝ }
+    ensures { λ res. ⌜ res ≡ checkedOf edition small (boardOf small (now (l .entry))) ⌝ }
 {
-    check_rules(Size::SMALL, l)
+    check_rules(edition, Size::SMALL, l)
 }
 
 // A board is exactly so many bytes.

@@ -1,5 +1,5 @@
 -- The stores of each call's body come to its effect, on a board that is settled and where no refusal of its row applies.
---   Body z c d p     the stores d come to what the paper says, p: the value, the bytes, and who runs then where c ran before
+--   Body z d p       the stores d come to what the paper says, p: the value and the bytes
 -- Assumes nothing.
 use mathlib.Core.Path.{_≡_, refl, sym, ap, _∙_, subst}
 use mathlib.Core.Logic.{_≢_}
@@ -12,6 +12,7 @@ use Rattle.links.specs.Queue.{firstWith}
 use Rattle.links.specs.Chain.{In}
 use Rattle.links.proofs.Members.{not-in-out}
 use Rattle.board.specs.declared.numbers.Size.{Size}
+use Rattle.board.specs.declared.numbers.TaskMeant.{TaskMeant}
 use Rattle.board.specs.declared.records.Message.{Message}
 use Rattle.board.specs.declared.places.Place.the-variants.{Free}
 use Rattle.board.specs.Numbers.{Numbered}
@@ -23,24 +24,23 @@ use Rattle.paper.specs.declared.call.Call.{Call}
 use Rattle.paper.specs.declared.call.Call.the-variants.{Install, PostInterrupt, Find, CancelTask, Claim, Prepare, Release}
 use Rattle.paper.specs.declared.call.Call.the-variants.{Send, SendAndWait, Resend, ResendAndWait, Forward, ForwardAndWait, Return, ReturnAndWait}
 use Rattle.paper.specs.declared.call.Call.the-variants.{Receive, ReceiveAndWait, CancelMessage, WaitForInterrupt}
-use Rattle.paper.specs.Rules.{present, queue, order, running}
+use Rattle.paper.specs.Rules.{present, queue, order}
 use Rattle.paper.specs.Changes.{hold}
 use Rattle.paper.specs.Effects.{placeAt, send, emptied, cancelMessage, waits, install, cancelTask, lowestFree, release}
 use Rattle.paper.specs.Refusals.{Test, no3, no4, no5, no6, no7, ownRow, Go, lowest}
 use Rattle.paper.specs.Outcomes.{Undispatched, undispatched, body}
-use Rattle.linked.proofs.Running.{runner-says}
+use Rattle.linked.proofs.Running.{ready-says}
 use Rattle.kept.specs.Claims.{Sizes}
-use Rattle.kept.specs.Settled.{Settled}
+use Rattle.kept.specs.Settled.{Settled, Awake}
 use Rattle.kept.proofs.Reading.{runner-passed, go-passed, install-row, cancel-row, claim-row, queue-walked, order-walked}
 use Rattle.kept.proofs.Holding.{unqueued-out, held-numbered}
 use Rattle.kept.proofs.Waiting.{task-numbered}
 use Rattle.kept.proofs.Placing.{sender-passed}
 use Rattle.kept.proofs.Taking.{cancel-message-row}
-use Rattle.kept.proofs.Dispatching.{take-runs}
 use Rattle.stores.specs.Changes as changes
 use Rattle.stores.specs.Moves as moves
 use Rattle.stores.specs.Effects as effects
-use Rattle.stores.specs.Answers.{Stored, leaves, rests}
+use Rattle.stores.specs.Answers.{Stored}
 use Rattle.stores.specs.Calls as calls
 use Rattle.stored.proofs.Comes.{Comes, and-then, comes-to, comes-same, comes-task, comes-message, comes-free, comes-held, comes-hold}
 use Rattle.stored.proofs.Links.{message-same}
@@ -48,40 +48,32 @@ use Rattle.stored.proofs.Queues.{queue-out}
 use Rattle.stored.proofs.Order.{order-read, order-into, order-out}
 use Rattle.stored.proofs.Bodies.{comes-emptied, comes-post, comes-wait, comes-waits, comes-placed, first-read, comes-taken}
 
-pub record Body (z : Size) (c : ℕ) (d : Stored) (p : Undispatched) : Type 0 where
+pub record Body (z : Size) (d : Stored) (p : Undispatched) : Type 0 where
   pub value : d .value ≡ p .value
   pub bytes : Comes z (d .after) (p .board)
-  pub runs : calls.runsThen z c (d .stirs) (d .after) ≡ running z (p .board)
 
 -- ---- a row
--- who is ready may have changed, and who runs is looked for
-stirs : {z : Size} {c v : ℕ} {l : List ℕ} {b : Board} → Comes z l b → Body z c (leaves v l) (undispatched v b)
-stirs {z = z} h = record { value = refl; bytes = h; runs = ap (running z) (h .1) }
-
--- the same task runs
-resting : {z : Size} {c v w : ℕ} {l : List ℕ} {b : Board} → v ≡ w → Comes z l b → c ≡ running z b → Body z c (rests v l) (undispatched w b)
-resting e h r = record { value = e; bytes = h; runs = r }
+-- without a value
+does : {z : Size} {k : TaskMeant} {l : List ℕ} {b : Board} → Comes z l b → Body z (record { value = 0; stirred = k; after = l }) (undispatched 0 b)
+does h = record { value = refl; bytes = h }
 
 module _ (z : Size) (l : List ℕ) (e : length l ≡ total z) (a : Sizes z) (q : List ℕ) (queues : ℕ → List ℕ)
-    (s : Settled z (boardOf z l) q queues) where
+    (s : Settled z (boardOf z l) q queues) (c : ℕ) (awake : Awake (boardOf z l) c) where
   abbrev b : Board
   b = boardOf z l
-
-  abbrev c : ℕ
-  c = running z b
 
   numbered : (k : ℕ) → present b k ≡ true → Numbered (z .tasks) k
   numbered k h = task-numbered z b q queues s k h
 
   runner : c ≢ 0 → Numbered (z .tasks) c
-  runner n = numbered c (runner-says z b n .0)
+  runner n = numbered c (ready-says b c (awake n) .0)
 
   -- ---- messages that are placed
   -- as the record u, by a row that says that the running task holds it and that r is there
   placed : (m : ℕ) (u : Message) (r : ℕ) (tests : List Test) → lowest (no3 c ∷ no4 z m ∷ no5 b c m ∷ no6 z b r ∷ tests) ≡ Go
       → Comes z (effects.placeAt z l m u r) (placeAt z (withMessage b m u) m r)
   placed m u r tests g =
-      let (runs, held, there, rest) = sender-passed z b q queues a s m r tests g in
+      let (runs, held, there, rest) = sender-passed z b c m r tests g in
       let n = numbered r there in
       let out : (y : ℕ) → In y (queues r) → y ≢ m = unqueued-out z b q queues s m (ap isQueued held) r n in
       comes-placed z l e a (s .regular .linked) m u r (held-numbered z b q queues s m c held) n
@@ -133,28 +125,31 @@ module _ (z : Size) (l : List ℕ) (e : length l ≡ total z) (a : Sizes z) (q :
       (λ f. comes-hold z d f c m (runner runs) (a .tasks))) (λ f. comes-emptied z k f r)
 
   there : lowest (ownRow z b c Receive) ≡ Go → present b c ≡ true
-  there g = runner-says z b (runner-passed c (go-passed (no3 c) [] g .0)) .0
+  there g = ready-says b c (awake (runner-passed c (go-passed (no3 c) [] g .0))) .0
 
   -- ---- every call
-  pub body-comes : (call : Call) → lowest (ownRow z b c call) ≡ Go → Body z c (calls.body z l c call) (body z b c call)
-  body-comes (Install k t p sptr name) g = stirs (installed k t p sptr name g)
-  body-comes (PostInterrupt k) g = stirs (comes-post z l e k)
+  pub body-comes : (call : Call) → lowest (ownRow z b c call) ≡ Go → Body z (calls.body z l c call) (body z b c call)
+  body-comes (Install k t p sptr name) g = does (installed k t p sptr name g)
+  body-comes (PostInterrupt k) g = does (comes-post z l e k)
   body-comes (Find name) g =
-      resting (ap (firstWith (λ k. eqb (task b k .name) name)) (order-read z l e (a .limit) (a .tasks) (s .regular .linked))) (comes-same z l e) refl
-  body-comes (CancelTask k) g = stirs (cancelled k g)
-  body-comes Claim g = resting refl (comes-held z l e (lowestFree b) c (runner (claim-row b c g .0)) (a .tasks)) refl
-  body-comes (Prepare m t p sptr) g = resting refl (comes-message z l e m _) refl
-  body-comes (Release m) g = resting refl (released m) refl
-  body-comes (Send m r) g = stirs (sent m r g)
-  body-comes (SendAndWait m r) g = stirs (and-waits _ _ (sent m r g))
-  body-comes (Resend m) g = stirs (passed m (message b m .rptr) g)
-  body-comes (ResendAndWait m) g = stirs (and-waits _ _ (passed m (message b m .rptr) g))
-  body-comes (Forward m r) g = stirs (passed m r g)
-  body-comes (ForwardAndWait m r) g = stirs (and-waits _ _ (passed m r g))
-  body-comes (Return m) g = stirs (passed m (message b m .sptr) g)
-  body-comes (ReturnAndWait m) g = stirs (and-waits _ _ (passed m (message b m .sptr) g))
+      record {
+        value = ap (firstWith (λ k. eqb (task b k .name) name)) (order-read z l e (a .limit) (a .tasks) (s .regular .linked));
+        bytes = comes-same z l e;
+      }
+  body-comes (CancelTask k) g = does (cancelled k g)
+  body-comes Claim g = record { value = refl; bytes = comes-held z l e (lowestFree b) c (runner (claim-row b c g .0)) (a .tasks) }
+  body-comes (Prepare m t p sptr) g = does (comes-message z l e m _)
+  body-comes (Release m) g = does (released m)
+  body-comes (Send m r) g = does (sent m r g)
+  body-comes (SendAndWait m r) g = does (and-waits _ _ (sent m r g))
+  body-comes (Resend m) g = does (passed m (message b m .rptr) g)
+  body-comes (ResendAndWait m) g = does (and-waits _ _ (passed m (message b m .rptr) g))
+  body-comes (Forward m r) g = does (passed m r g)
+  body-comes (ForwardAndWait m r) g = does (and-waits _ _ (passed m r g))
+  body-comes (Return m) g = does (passed m (message b m .sptr) g)
+  body-comes (ReturnAndWait m) g = does (and-waits _ _ (passed m (message b m .sptr) g))
   body-comes Receive g =
-      resting (first-read z l e a q queues s c (there g)) (comes-taken z l e a q queues s c (there g)) (sym (take-runs z b c))
-  body-comes ReceiveAndWait g = stirs (comes-waits z l e c)
-  body-comes (CancelMessage m r) g = stirs (taken-back m r g)
-  body-comes WaitForInterrupt g = stirs (comes-wait z l e c)
+      record { value = first-read z l e a q queues s c (there g); bytes = comes-taken z l e a q queues s c (there g) }
+  body-comes ReceiveAndWait g = does (comes-waits z l e c)
+  body-comes (CancelMessage m r) g = does (taken-back m r g)
+  body-comes WaitForInterrupt g = does (comes-wait z l e c)

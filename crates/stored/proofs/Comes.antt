@@ -14,10 +14,10 @@ use Rattle.board.specs.declared.places.Place.the-variants.{Free, HeldBy, Queued
 use Rattle.board.specs.Numbers.{taskNo, Numbered}
 use Rattle.board.specs.Records.{taskBytes, messageBytes}
 use Rattle.board.specs.Places.{placeBytes}
-use Rattle.board.specs.Board.{Board, total, boardOf, taskArea, messageArea, placeArea, withFirst, withTask, withMessage, withPlace}
-use Rattle.board.specs.Writes.{putFirst, putTask, putMessage, putPlace}
+use Rattle.board.specs.Board.{Board, total, boardOf, taskArea, messageArea, placeArea, withFirst, withRunning, withTask, withMessage, withPlace}
+use Rattle.board.specs.Writes.{putFirst, putRunning, putTask, putMessage, putPlace}
 use Rattle.board.proofs.Pieces.{length-putIn}
-use Rattle.board.proofs.Written.{board-put-first, board-put-task, board-put-message, board-put-free, board-put-held, board-put-queued}
+use Rattle.board.proofs.Written.{board-put-first, board-put-running, board-put-task, board-put-message, board-put-free, board-put-held, board-put-queued}
 use Rattle.paper.specs.Changes.{hold}
 use Rattle.stores.specs.Changes as changes
 
@@ -48,6 +48,11 @@ module _ (z : Size) (l : List ℕ) (e : length l ≡ total z) where
   pub comes-first : (k : ℕ) → k < 256 → Comes z (putFirst l (k % 256)) (withFirst (boardOf z l) k)
   comes-first k h =
       (length-set l 0 (k % 256) ∙ e, board-put-first z l (k % 256) (omega arith) ∙ ap (withFirst (boardOf z l)) (mod-eq-of-lt h))
+
+  -- byte 1, likewise
+  pub comes-running : (c : ℕ) → c < 256 → Comes z (putRunning l (c % 256)) (withRunning (boardOf z l) c)
+  comes-running c h =
+      (length-set l 1 (c % 256) ∙ e, board-put-running z l (c % 256) (omega arith) ∙ ap (withRunning (boardOf z l)) (mod-eq-of-lt h))
 
   pub comes-task : (k : ℕ) (t : Task) → Comes z (putTask z l k t) (withTask (boardOf z l) k t)
   comes-task k t = (length-putIn (taskArea z) l k (taskBytes t) ∙ e, board-put-task z l e k t)

@@ -5,4 +5,5 @@ mod Queues
 mod Order
 mod Bodies
 mod Calls
+mod Next
 pub mod Theorems

@@ -6,6 +6,7 @@ pub mod addressed;
 ghost use mathlib.Core.Path.{_≡_};
 ghost use Rattle.stores.specs.Answers.{withNobody};
 use board::numbers::MsgNo;
+use board::numbers::TaskMeant;
 use board::numbers::TaskNo;
 use paper::answer::Answer;
 use paper::answer::Refusal;
@@ -16,9 +17,9 @@ pub enum Held {
     Not(Refusal),
 }
 
-// A call's body was done, with this value; stirs says that who is ready may have changed.
+// A call's body was done, with this value; of the tasks other than the one that calls it changed the status of this one at most.
 pub enum Body {
-    Done { value: u16, stirs: bool },
+    Done { value: u16, stirred: TaskMeant },
     Stopped(Refusal),
 }
 
@@ -28,7 +29,7 @@ impl Body {
         ensures { λ res. ⌜ res ≡ withNobody self ⌝ }
     {
         match self {
-            Body::Done { value, stirs: _ } => Answer::Accepted {
+            Body::Done { value, stirred: _ } => Answer::Accepted {
                 value: value,
                 running: 0,
                 delivered: 0,

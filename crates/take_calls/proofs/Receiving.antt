@@ -16,7 +16,7 @@ use Rattle.board.specs.declared.numbers.MessageMeant.{MessageMeant}
 use Rattle.board.specs.declared.numbers.MessageMeant.the-variants as means
 use Rattle.board.specs.declared.records.Task.{Task}
 use Rattle.board.specs.declared.records.Message.{Message}
-use Rattle.board.specs.Numbers.{outside, taskNo, taskMeant, messageMeant, numberOfMessage}
+use Rattle.board.specs.Numbers.{outside, taskNo, messageMeant, numberOfMessage}
 use Rattle.board.specs.Status.{WAIT, MHBS, has}
 use Rattle.board.specs.Places.{isQueuedAt}
 use Rattle.board.specs.Board.{Board, boardOf, task, message, place}
@@ -24,13 +24,12 @@ use Rattle.board.proofs.Meant.{messageMeant-message, messageMeant-none, number-
 use Rattle.paper.specs.declared.call.Call.{Call}
 use Rattle.paper.specs.declared.call.Call.the-variants.{Receive, CancelMessage}
 use Rattle.paper.specs.declared.answer.Refusal.the-variants.{NoSuchMessage, NoSuchTask, NotQueued, NotItsSender}
-use Rattle.paper.specs.Rules.{running}
 use Rattle.paper.specs.Refusals.{Test, no4, no6, no12, no13, lowest}
 use Rattle.stores.specs.declared.Body.the-variants.{Done, Stopped}
 use Rattle.stores.specs.Changes.{sets, clears, withMptr, hold}
 use Rattle.stores.specs.Moves.{messageBehind, queueOut}
 use Rattle.stores.specs.Effects.{takeFirst, emptied, cancelMessage}
-use Rattle.stores.specs.Answers.{presentMeant, Makes}
+use Rattle.stores.specs.Answers.{Runner, presentMeant, Makes}
 use Rattle.stores.specs.Calls.{verdict, stepping}
 use Rattle.paper.proofs.Rows.{lowest-stop, lowest-on}
 use Rattle.inner.proofs.Rows.{task-row, no-task-row}
@@ -97,19 +96,19 @@ pub taken-back : (z : Size) (l : List ℕ) (c m r : ℕ) {d e f : List ℕ} → 
 taken-back z l c m r ed ee ef = ef ∙ (λ i. emptied z ((ee ∙ (λ j. hold z (ed j) c m)) i) r)
 
 -- ---- where c runs: x is who runs
-module _ (z : Size) (l : List ℕ) {x : TaskMeant} (ex : x ≡ taskMeant z (running z (boardOf z l))) {c : TaskNo}
-    (runs : x ≡ who.Task c) where
+module _ (z : Size) (l : List ℕ) {x : TaskMeant} (ex : Runner z l x) {c : TaskNo} (runs : x ≡ who.Task c) where
   abbrev b : Board
   b = boardOf z l
 
   -- receive: first is what it took, n its number
   pub receives : {first : MessageMeant} {n : ℕ} {d : List ℕ} → first ≡ messageMeant z (task b (c .0) .mptr)
-      → n ≡ numberOfMessage first → d ≡ takeFirst z l (c .0) → Makes (Done n false) d (stepping z l Receive)
+      → n ≡ numberOfMessage first → d ≡ takeFirst z l (c .0) → Makes (Done n who.NoTask) d (stepping z l Receive)
   receives ef en ed =
       let g = one-goes z l Receive [] refl ex runs in
-      let r : ℕ = running z b in
+      let r : ℕ = b .running in
       let f = ef ∙ (λ i. messageMeant z (task b (g .1 i .0) .mptr)) in
-      does z l Receive (g .0) (en ∙ ap numberOfMessage f ∙ number-of-message z (task b r .mptr)) (ed ∙ (λ i. takeFirst z l (g .1 i .0)))
+      does z l Receive (g .0) (en ∙ ap numberOfMessage f ∙ number-of-message z (task b r .mptr)) refl
+      (ed ∙ (λ i. takeFirst z l (g .1 i .0)))
 
   -- ---- cancel message w at the task v: meant is the message, from the task
   module _ (w v : ℕ) {meant : MessageMeant} (em : meant ≡ messageMeant z w) where
@@ -117,7 +116,7 @@ module _ (z : Size) (l : List ℕ) {x : TaskMeant} (ex : x ≡ taskMeant z (runn
     call = CancelMessage w v
 
     abbrev sent : List Test
-    sent = no13 b (running z b) w ∷ []
+    sent = no13 b (b .running) w ∷ []
 
     abbrev queued : List Test
     queued = no12 b w v ∷ sent
@@ -125,7 +124,7 @@ module _ (z : Size) (l : List ℕ) {x : TaskMeant} (ex : x ≡ taskMeant z (runn
     abbrev placed : List Test
     placed = no6 z b v ∷ queued
 
-    runner : (verdict z l call ≡ lowest (no4 z w ∷ placed)) × (c ≡ taskNo (running z b))
+    runner : (verdict z l call ≡ lowest (no4 z w ∷ placed)) × (c ≡ taskNo (b .running))
     runner = one-goes z l call (no4 z w ∷ placed) refl ex runs
 
     -- 4: there is no such message
@@ -160,18 +159,19 @@ module _ (z : Size) (l : List ℕ) {x : TaskMeant} (ex : x ≡ taskMeant z (runn
           sender : u .sptr ≡ message b w .sptr
           sender = (λ i. eu i .sptr) ∙ (λ i. message b (block .1 i .0) .sptr)
 
-          number : n ≡ running z b
+          number : n ≡ b .running
           number = en ∙ (λ i. runner .1 i .0)
 
           -- 13: another sent it
           pub cancel-not-sender : u .sptr ≢ n → Makes (Stopped NotItsSender) l (stepping z l call)
           cancel-not-sender h =
-              let other = ne-eqb (message b w .sptr) (running z b) (λ e. h (sender ∙ e ∙ sym number)) in
-              stops z l call (member ∙ lowest-stop (no13 b (running z b) w) [] (ap not other)) refl
+              let other = ne-eqb (message b w .sptr) (b .running) (λ e. h (sender ∙ e ∙ sym number)) in
+              stops z l call (member ∙ lowest-stop (no13 b (b .running) w) [] (ap not other)) refl
 
           -- c did: it takes the message back
-          pub cancels : {d : List ℕ} → u .sptr ≡ n → d ≡ cancelMessage z l (c .0) (m .0) (k .0) → Makes (Done 0 true) d (stepping z l call)
+          pub cancels : {d : List ℕ} → u .sptr ≡ n → d ≡ cancelMessage z l (c .0) (m .0) (k .0)
+              → Makes (Done 0 (who.Task k)) d (stepping z l call)
           cancels h ed =
-              let its = eq-eqb (message b w .sptr) (running z b) (sym sender ∙ h ∙ number) in
-              does z l call (member ∙ lowest-on (no13 b (running z b) w) [] (ap not its)) refl
+              let its = eq-eqb (message b w .sptr) (b .running) (sym sender ∙ h ∙ number) in
+              does z l call (member ∙ lowest-on (no13 b (b .running) w) [] (ap not its)) refl (ap who.Task (queue .1))
               (ed ∙ (λ i. cancelMessage z l (runner .1 i .0) (block .1 i .0) (queue .1 i .0)))

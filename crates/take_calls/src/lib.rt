@@ -54,7 +54,7 @@ pub fn receive(z: Size, l: &mut [u8], c: TaskMeant) -> Body
     let first = take_first(z, l, k);
     Body::Done {
         value: first.number(),
-        stirs: false,
+        stirred: TaskMeant::NoTask,
     }
 }
 
@@ -109,6 +109,6 @@ pub fn cancel_message(z: Size, l: &mut [u8], c: TaskMeant, m: u16, r: u16) -> Bo
     take_back(z, l, k, one, t);
     Body::Done {
         value: 0,
-        stirs: true,
+        stirred: TaskMeant::Task(t),
     }
 }

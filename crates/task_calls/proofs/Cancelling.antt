@@ -11,7 +11,7 @@ use Rattle.board.specs.declared.numbers.TaskNo.{TaskNo}
 use Rattle.board.specs.declared.numbers.TaskMeant.{TaskMeant}
 use Rattle.board.specs.declared.numbers.TaskMeant.the-variants as means
 use Rattle.board.specs.declared.records.Task.{Task}
-use Rattle.board.specs.Numbers.{taskNo, taskMeant}
+use Rattle.board.specs.Numbers.{taskNo}
 use Rattle.board.specs.Status.{IWAT, has}
 use Rattle.board.specs.Records.{noTask}
 use Rattle.board.specs.Board.{Board, boardOf, task}
@@ -19,11 +19,10 @@ use Rattle.board.specs.Writes.{putTask}
 use Rattle.paper.specs.declared.call.Call.{Call}
 use Rattle.paper.specs.declared.call.Call.the-variants.{CancelTask}
 use Rattle.paper.specs.declared.answer.Refusal.the-variants.{NobodyRuns, NoSuchTask, TaskBusy}
-use Rattle.paper.specs.Rules.{running}
 use Rattle.paper.specs.Refusals.{holdsOne, no3, no6, no10, lowest}
 use Rattle.stores.specs.Moves.{orderOut}
 use Rattle.stores.specs.declared.Body.the-variants.{Done, Stopped}
-use Rattle.stores.specs.Answers.{presentMeant, Makes}
+use Rattle.stores.specs.Answers.{Runner, presentMeant, Makes}
 use Rattle.stores.specs.Calls.{verdict, stepping}
 use Rattle.paper.proofs.Rows.{lowest-stop, lowest-on}
 use Rattle.inner.proofs.Rows.{nobody-runs, one-runs, task-row, no-task-row}
@@ -34,21 +33,21 @@ module _ (z : Size) (l : List ℕ) (k : ℕ) where
   b = boardOf z l
 
   abbrev c : ℕ
-  c = running z b
+  c = b .running
 
   abbrev call : Call
   call = CancelTask k
 
   -- x is who runs
-  module _ {x : TaskMeant} (d : x ≡ taskMeant z c) where
+  module _ {x : TaskMeant} (d : Runner z l x) where
     -- 3: nobody
     pub cancel-nobody : x ≡ means.NoTask → Makes (Stopped NobodyRuns) l (stepping z l call)
-    cancel-nobody e = stops z l call (lowest-stop (no3 c) (no6 z b k ∷ no10 b k ∷ []) (nobody-runs z l (sym d ∙ e))) refl
+    cancel-nobody e = stops z l call (lowest-stop (no3 c) (no6 z b k ∷ no10 b k ∷ []) (nobody-runs z l d e)) refl
 
     -- one does, and m is what k means
     module _ {r : TaskNo} (e : x ≡ means.Task r) {m : TaskMeant} (f : m ≡ presentMeant z b k) where
       runs : verdict z l call ≡ lowest (no6 z b k ∷ no10 b k ∷ [])
-      runs = lowest-on (no3 c) (no6 z b k ∷ no10 b k ∷ []) (one-runs z l r (sym d ∙ e) .0)
+      runs = lowest-on (no3 c) (no6 z b k ∷ no10 b k ∷ []) (one-runs z l d e .0)
 
       -- 6: no task
       pub cancel-no-task : m ≡ means.NoTask → Makes (Stopped NoSuchTask) l (stepping z l call)
@@ -97,8 +96,8 @@ module _ (z : Size) (l : List ℕ) (k : ℕ) where
 
             -- it doesn't: it is taken out of the task queue, and its record is none
             pub cancels : {out after : List ℕ} {none : Task} → v ≡ false → out ≡ orderOut z l (n .0) → none ≡ noTask
-                → after ≡ putTask z out (n .0) none → Makes (Done 0 true) after (stepping z l call)
+                → after ≡ putTask z out (n .0) none → Makes (Done 0 (means.Task n)) after (stepping z l call)
             cancels y o p a =
-                does z l call (there ∙ lowest-on (no10 b k) [] (waiting ∙ y)) refl
+                does z l call (there ∙ lowest-on (no10 b k) [] (waiting ∙ y)) refl (ap means.Task meant)
                 (a ∙ ap₂ (λ (x : List ℕ) (w : Task). putTask z x (n .0) w) o p
                 ∙ ap (λ (x : TaskNo). putTask z (orderOut z l (x .0)) (x .0) noTask) meant)

@@ -82,7 +82,7 @@ module _ (z : Size) (l : List ℕ) (k s p sptr name : ℕ) where
 
           -- it is not: the task goes into the task queue
           pub installs : {after : List ℕ} → v ≡ false → after ≡ orderInto z l (n .0) (made w)
-              → Makes (Done 0 true) after (stepping z l call)
+              → Makes (Done 0 (means.Task n)) after (stepping z l call)
           installs y a =
-              does z l call (absent ∙ lowest-on (no9 s) [] (tested ∙ y)) refl
+              does z l call (absent ∙ lowest-on (no9 s) [] (tested ∙ y)) refl (ap means.Task meant)
               (a ∙ ap₂ (λ (x : TaskNo) (t : Status). orderInto z l (x .0) (made t)) meant o)

@@ -100,5 +100,5 @@ module _ (z : Size) (b : Board) (name n : ℕ) {x : TaskMeant} (is : x ≡ taskM
 
 -- ---- find
 pub finds : (z : Size) (l : List ℕ) (name : ℕ) (x : TaskMeant) {n : ℕ} → numberOfTask x ≡ find z l name → n ≡ numberOfTask x
-    → Makes (Done n false) l (stepping z l (Find name))
-finds z l name x e en = does z l (Find name) refl (en ∙ e) refl
+    → Makes (Done n means.NoTask) l (stepping z l (Find name))
+finds z l name x e en = does z l (Find name) refl (en ∙ e) refl refl

@@ -78,7 +78,7 @@ pub fn install(z: Size, l: &mut [u8], k: u16, stat: u8, prio: u8, sptr: u16, nam
     into_order(z, l, n, t);
     Body::Done {
         value: 0,
-        stirs: true,
+        stirred: TaskMeant::Task(n),
     }
 }
 
@@ -110,7 +110,7 @@ pub fn find_task(z: Size, l: &[u8], name: u16) -> Body
     let k = named(z, l, name);
     Body::Done {
         value: k.number(),
-        stirs: false,
+        stirred: TaskMeant::NoTask,
     }
 }
 
@@ -157,6 +157,6 @@ pub fn cancel_task(z: Size, l: &mut [u8], c: TaskMeant, k: u16) -> Body
     put_task(z, l, n, Task::none());
     Body::Done {
         value: 0,
-        stirs: true,
+        stirred: TaskMeant::Task(n),
     }
 }

@@ -1,7 +1,7 @@
 -- The wait, and what a wait form comes to. Assumes nothing.
 use mathlib.Core.Path.{_≡_, refl, sym, ap, ap₂, _∙_, subst}
 use mathlib.Core.Logic.{_≢_}
-use mathlib.Core.Bool.{Bool, true, cond}
+use mathlib.Core.Bool.{Bool, cond}
 use mathlib.Core.List.{List, []}
 use Prim.Native.Nat.{ℕ}
 use lib.Dec.{eqb}
@@ -11,22 +11,19 @@ use Rattle.board.specs.declared.numbers.TaskNo.{TaskNo}
 use Rattle.board.specs.declared.numbers.TaskMeant.{TaskMeant}
 use Rattle.board.specs.declared.numbers.TaskMeant.the-variants.{Task, NoTask}
 use Rattle.board.specs.declared.records.Task as records
-use Rattle.board.specs.Numbers.{taskMeant, numberOfTask}
+use Rattle.board.specs.Numbers.{numberOfTask}
 use Rattle.board.specs.Status.{WAIT, MHBS}
 use Rattle.board.specs.Board.{boardOf, task}
 use Rattle.paper.specs.declared.call.Call.{Call}
 use Rattle.paper.specs.declared.call.Call.the-variants.{Send, SendAndWait, Resend, ResendAndWait, Forward, ForwardAndWait, Return, ReturnAndWait}
 use Rattle.paper.specs.declared.call.Call.the-variants.{ReceiveAndWait}
-use Rattle.paper.specs.declared.answer.Refusal.{Refusal}
-use Rattle.paper.specs.Rules.{running}
 use Rattle.paper.specs.Refusals.{Verdict, Go, Stop}
 use Rattle.stores.specs.declared.Body.{Body}
-use Rattle.stores.specs.declared.Body.the-variants.{Done, Stopped}
+use Rattle.stores.specs.declared.Body.the-variants.{Done}
 use Rattle.stores.specs.Changes.{sets}
 use Rattle.stores.specs.Effects.{waits}
-use Rattle.stores.specs.Answers.{Stored, leaves, Makes, replyBy}
+use Rattle.stores.specs.Answers.{Runner, Stored, Makes, replyBy}
 use Rattle.stores.specs.Calls.{body, verdict, stepping, waiting}
-use Rattle.inner.proofs.Runner.{runner-number}
 use Rattle.inner.proofs.Steps.{does, one-goes}
 
 -- ---- which flag the wait sets: x is the task that waits
@@ -51,36 +48,38 @@ module _ (z : Size) (l : List ℕ) {x : TaskMeant} where
     wait-full n = waits-by MHBS (ap (λ (u : Bool). cond u WAIT MHBS) (sym (ne-eqb (t .mptr) 0 n)))
 
 -- ---- behind a placing
-pub waits-not : (z : Size) (c : ℕ) (l : List ℕ) {p : Body} {q : Refusal} → p ≡ Stopped q → Makes p l (waiting z c p l)
-waits-not z c l {q = q} e = subst (λ (y : Body). Makes y l (waiting z c y l)) (sym e) (record { answers = refl; leaves = refl })
-
-pub waits-then : (z : Size) (c : ℕ) (l : List ℕ) {p : Body} {v : ℕ} {s : Bool} {d : List ℕ} → p ≡ Done v s → d ≡ waits z l c
-    → Makes (Done 0 true) d (waiting z c p l)
-waits-then z c l {d = d} e f = subst (λ (y : Body). Makes (Done 0 true) d (waiting z c y l)) (sym e) (record { answers = refl; leaves = f })
+pub waits-then : (z : Size) (c : ℕ) (l : List ℕ) {p : Body} {v : ℕ} {r : TaskMeant} {d : List ℕ} → p ≡ Done v r → d ≡ waits z l c
+    → Makes (Done 0 r) d (waiting z c p l)
+waits-then z c l {r = r} {d = d} e f =
+    subst (λ (y : Body). Makes (Done 0 r) d (waiting z c y l)) (sym e) (record { answers = refl; leaves = f })
 
 -- ---- receive and wait: x is who runs
-pub waits-itself : (z : Size) (l : List ℕ) {x : TaskMeant} → x ≡ taskMeant z (running z (boardOf z l)) → {k : TaskNo} → x ≡ Task k
-    → {d : List ℕ} → d ≡ waits z l (numberOfTask x) → Makes (Done 0 true) d (stepping z l ReceiveAndWait)
+pub waits-itself : (z : Size) (l : List ℕ) {x : TaskMeant} → Runner z l x → {k : TaskNo} → x ≡ Task k
+    → {d : List ℕ} → d ≡ waits z l (numberOfTask x) → Makes (Done 0 NoTask) d (stepping z l ReceiveAndWait)
 waits-itself z l ex runs ed =
     let g = one-goes z l ReceiveAndWait [] refl ex runs in
-    does z l ReceiveAndWait (g .0) refl (ed ∙ ap (waits z l) (ap numberOfTask ex ∙ runner-number z l))
+    does z l ReceiveAndWait (g .0) refl refl (ed ∙ ap (waits z l) (ex .1))
 
 -- ---- a wait form: the call that it is without the wait, then the wait
+-- what it comes to, where the plain call comes to s
+abbrev thenWait : Size → ℕ → Stored → Stored
+thenWait z c s = record { value = 0; stirred = s .stirred; after = waits z (s .after) c }
+
 waited : (z : Size) (v : Verdict) (c : ℕ) (l : List ℕ) (s : Stored)
-    → waiting z c (replyBy v l s .answer) (replyBy v l s .after) ≡ replyBy v l (leaves 0 (waits z (s .after) c))
+    → waiting z c (replyBy v l s .answer) (replyBy v l s .after) ≡ replyBy v l (thenWait z c s)
 waited z Go c l s = refl
 waited z (Stop q) c l s = refl
 
 -- the plain call comes to p and d, and the wait behind it to q and e: so does the call
-module _ (z : Size) (l : List ℕ) {x : TaskMeant} (ex : x ≡ taskMeant z (running z (boardOf z l))) {call : Call} {p q : Body}
-    {d e : List ℕ} (w : Makes q e (waiting z (numberOfTask x) p d)) where
+module _ (z : Size) (l : List ℕ) {x : TaskMeant} (ex : Runner z l x) {call : Call} {p q : Body} {d e : List ℕ}
+    (w : Makes q e (waiting z (numberOfTask x) p d)) where
   then-waits : (plain form : Call) → call ≡ form → verdict z l form ≡ verdict z l plain
-      → (let c = running z (boardOf z l) in body z l c form ≡ leaves 0 (waits z (body z l c plain .after) c))
+      → (let c = boardOf z l .running in body z l c form ≡ thenWait z c (body z l c plain))
       → Makes p d (stepping z l plain) → Makes q e (stepping z l call)
   then-waits plain form is ev eb m =
-      let c : ℕ = running z (boardOf z l) in
+      let c : ℕ = boardOf z l .running in
       subst (Makes q e)
-      ((λ i. waiting z ((ap numberOfTask ex ∙ runner-number z l) i) (m .answers i) (m .leaves i))
+      ((λ i. waiting z (ex .1 i) (m .answers i) (m .leaves i))
       ∙ waited z (verdict z l plain) c l (body z l c plain) ∙ ap₂ (λ (v : Verdict) (s : Stored). replyBy v l s) (sym ev) (sym eb)
       ∙ ap (stepping z l) (sym is))
       w

@@ -37,13 +37,13 @@ pub fn then_wait(z: Size, l: &mut [u8], c: TaskMeant, placed: Body) -> Body
     requires { ⌜ total z ≤ length (now l) ⌝ }
     ensures { λ res. ⌜ Makes res (now (l .exit)) (waiting z (numberOfTask c) placed (now (l .entry))) ⌝ }
 {
-    let Body::Done { value: _, stirs: _ } = placed else {
+    let Body::Done { value: _, stirred: r } = placed else {
         return placed;
     };
     wait(z, l, c);
     Body::Done {
         value: 0,
-        stirs: true,
+        stirred: r,
     }
 }
 
@@ -57,6 +57,6 @@ pub fn receive_and_wait(z: Size, l: &mut [u8], c: TaskMeant) -> Body
     wait(z, l, c);
     Body::Done {
         value: 0,
-        stirs: true,
+        stirred: TaskMeant::NoTask,
     }
 }

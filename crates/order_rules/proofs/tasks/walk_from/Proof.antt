@@ -11,7 +11,7 @@ use Rattle.board.specs.Status.{isReady}
 use Rattle.board.specs.Board.{boardOf}
 use Rattle.paper.specs.Rules.{ready, nextTask}
 use Rattle.queue_rules.specs.declared.Walked.{Walked}
-use Rattle.order_rules.specs.Order.{orderVisited, withRunner}
+use Rattle.order_rules.specs.Order.{orderVisited, withReady}
 use Rattle.order_rules.proofs.OrderTurns.{order-ends, order-strays, order-goes-on, order-gives-up}
 use Rattle.order_rules.proofs.OrderTurns.{order-found, nobody-ends, nobody-yet}
 use borrow.Author.Needs.{needs}
@@ -50,8 +50,8 @@ returns c =
     let t = i .before .before in
     let p = t .before .before .loop in
     let a = t .before .before .before .before .before .args in
-    c .with-runner .ensures
-    ∙ ap₂ withRunner (c .before .walk-on .ensures ∙ p .inv .2)
+    c .with-ready .ensures
+    ∙ ap₂ withReady (c .before .walk-on .ensures ∙ p .inv .2)
     (order-found (a .z) (now (a .l)) (a .z .messages - p .seen) (p .k .0) (p .k) (omega arith) (p .inv .1) refl
     (sym (i .before .ready .ensures ∙ ap (λ (r : Task). isReady (r .stat)) (t .task-at .ensures)) ∙ i .if1 .taken) (p .inv .3))
 
@@ -85,8 +85,8 @@ returns-2 c =
     let t = i .before .before in
     let p = t .before .before .loop in
     let a = t .before .before .before .before .before .args in
-    c .with-runner2 .ensures
-    ∙ ap₂ withRunner
+    c .with-ready2 .ensures
+    ∙ ap₂ withReady
     (order-ends (a .z) (now (a .l)) _ (p .seen) (p .k .0) (p .low) (u .task-turn .result) (t .before .loop-test .taken) (p .inv .1)
     (u .task-turn .ensures) (p .inv .2) (c .before .enum-told .given .1))
     (ap (taskMeant (a .z))
@@ -103,7 +103,7 @@ returns-3 c =
     let a = t .before .before .before .before .before .args in
     let b = boardOf (a .z) (now (a .l)) in
     let r = taskMeant (a .z) (firstWith (ready b) (walk (nextTask b) (a .z .messages) (a .first .0))) in
-    ap (λ (w : Walked). withRunner w r)
+    ap (λ (w : Walked). withReady w r)
     (order-strays (a .z) (now (a .l)) _ (p .seen) (p .k .0) (p .low) (u .task-turn .result) (t .before .loop-test .taken) (p .inv .1)
     (u .task-turn .ensures) (p .inv .2) (c .enum-told2 .given .1))
 
@@ -113,7 +113,7 @@ returns-4 c =
     let a = c .before .before .before .before .args in
     let b = boardOf (a .z) (now (a .l)) in
     let r = taskMeant (a .z) (firstWith (ready b) (walk (nextTask b) (a .z .messages) (a .first .0))) in
-    ap (λ (w : Walked). withRunner w r)
+    ap (λ (w : Walked). withReady w r)
     (order-gives-up (a .z) (now (a .l)) _ (p .seen) (p .k .0) (p .low) (c .loop-test .left) (p .inv .1) (p .inv .2))
 
 pub walk-from-spec : {M : Type 1} → statement M

@@ -1,4 +1,4 @@
--- `order_rules::who::running` meets its contract.
+-- `order_rules::who::first_ready` meets its contract.
 use mathlib.Core.Path.{_≡_, sym, ap, _∙_}
 use native.Mathlib.Omega.{arith}
 use denote.Ref.{now}
@@ -7,16 +7,16 @@ use Rattle.board.specs.declared.records.Task.{Task}
 use Rattle.board.specs.Numbers.{taskMeant, numberOfTask}
 use Rattle.board.specs.Status.{isReady}
 use Rattle.board.specs.Board.{boardOf}
-use Rattle.paper.specs.Rules.{nextTask, ready, running}
-use Rattle.order_rules.proofs.OrderTurns.{walk-meant, meant-again, runs-none, runs-out, runs-found, runs-behind}
+use Rattle.paper.specs.Rules.{nextTask, ready, firstReady}
+use Rattle.order_rules.proofs.OrderTurns.{walk-meant, meant-again, first-at-end, first-no-link, first-here, first-behind-it}
 use borrow.Author.Needs.{needs}
-use Rattle.order_rules.proofs.who.running.Statement.{statement}
-use Rattle.order_rules.proofs.who.running.Tie as tie
+use Rattle.order_rules.proofs.who.first_ready.Statement.{statement}
+use Rattle.order_rules.proofs.who.first_ready.Tie as tie
 
 abbrev Inv-loop : tie.InvT-loop
 Inv-loop z l who₀ left₀ who left =
     (taskMeant z (numberOfTask who) ≡ who)
-    × (firstWith (ready (boardOf z l)) (walk (nextTask (boardOf z l)) left (numberOfTask who)) ≡ running z (boardOf z l))
+    × (firstWith (ready (boardOf z l)) (walk (nextTask (boardOf z l)) left (numberOfTask who)) ≡ firstReady z (boardOf z l))
 
 abbrev μ-loop : tie.MeasureT-loop
 μ-loop z l who₀ left₀ who left = left
@@ -33,14 +33,14 @@ returns : tie.Need-returns Inv-loop μ-loop
 returns c =
     let p = c .before .before .before .loop in
     let a = c .before .before .before .before .before .before .args in
-    runs-none (a .z) (now (a .l)) (p .left) (p .who) (p .inv .0) (p .inv .1) (c .enum-told .given .1)
+    first-at-end (a .z) (now (a .l)) (p .left) (p .who) (p .inv .0) (p .inv .1) (c .enum-told .given .1)
 
 returns-2 : tie.Need-returns-2 Inv-loop μ-loop
 returns-2 c =
     let w = c .before .before .before .before in
     let p = w .before .before .before .loop in
     let a = w .before .before .before .before .before .before .args in
-    runs-found (a .z) (now (a .l)) (p .left) (p .who) (p .inv .0) (p .inv .1) _ (w .who .given .1) (w .before .before .loop-test .taken)
+    first-here (a .z) (now (a .l)) (p .left) (p .who) (p .inv .0) (p .inv .1) _ (w .who .given .1) (w .before .before .loop-test .taken)
     (sym (c .before .ready .ensures ∙ ap (λ (t : Task). isReady (t .stat)) (c .before .before .task-at .ensures)) ∙ c .if1 .taken)
 
 loop-again : tie.Need-loop-again Inv-loop μ-loop
@@ -49,7 +49,7 @@ loop-again c =
     let p = w .before .before .before .loop in
     let a = w .before .before .before .before .before .before .args in
     let t = c .before .before .before .task-at in
-    runs-behind (a .z) (now (a .l)) (p .left) (p .who) (p .inv .0) (p .inv .1) _ (w .who .given .1) (w .before .before .loop-test .taken)
+    first-behind-it (a .z) (now (a .l)) (p .left) (p .who) (p .inv .0) (p .inv .1) _ (w .who .given .1) (w .before .before .loop-test .taken)
     (c .next .result) (c .next .ensures ∙ ap (λ (r : Task). taskMeant (a .z) (r .link)) (t .ensures))
     (sym (c .before .before .ready .ensures ∙ ap (λ (r : Task). isReady (r .stat)) (t .ensures)) ∙ c .before .if1 .left)
 
@@ -57,10 +57,10 @@ returns-3 : tie.Need-returns-3 Inv-loop μ-loop
 returns-3 c =
     let p = c .before .loop in
     let a = c .before .before .before .before .args in
-    runs-out (a .z) (now (a .l)) (p .left) (p .who) (p .inv .0) (p .inv .1) (omega arith)
+    first-no-link (a .z) (now (a .l)) (p .left) (p .who) (p .inv .0) (p .inv .1) (omega arith)
 
-pub running-spec : {M : Type 1} → statement M
-running-spec =
+pub first-ready-spec : {M : Type 1} → statement M
+first-ready-spec =
     tie.close
     (tie.spec Inv-loop μ-loop (λ c κs. search needs) loop-holds (λ c. search needs) (λ c. search needs) returns
     (λ c κs. search needs) (λ c κs. search needs) returns-2 (λ c κs. search needs) (λ c. search needs)
