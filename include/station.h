@@ -1,4 +1,5 @@
-/* The station's board: tasks, message blocks and queues in 1,476 bytes that the caller lends. For C11 and C++.
+/* The station's board: tasks, message blocks and queues in 1,476 bytes that the caller lends. Byte 0 of them names the first task
+ * of the task queue, and byte 1 the running task, 0 if none. For C11 and C++.
  *
  * Link with target/staticlib/libstation.a, which `rt staticlib station` writes; of the C library it needs memset alone. No
  * function keeps anything between calls, allocates, or touches a byte outside the lent ones. A board's pointer must have as
@@ -25,6 +26,7 @@ extern "C" {
 /* ---- what is linked: packed answers, for use through the wrappers below */
 uint64_t station_fresh(uint8_t *board, size_t len);
 uint64_t station_check(const uint8_t *board, size_t len);
+uint64_t station_convert(uint8_t *board, size_t len);
 uint64_t station_call(uint8_t *board, size_t len, uint8_t kind, uint16_t a, uint16_t b, uint16_t c, uint8_t stat, uint8_t prio);
 
 /* ---- bits of a task's STAT */
@@ -43,7 +45,7 @@ enum {
     STATION_ACCEPTED = 0,
     STATION_WRONG_LENGTH = 1, /* the board isn't 1,476 bytes */
     STATION_RULE_BROKEN = 2, /* such a board cannot exist; the answer tells the rule and the record */
-    STATION_NOBODY_RUNS = 3,
+    STATION_NOBODY_RUNS = 3, /* byte 1 is 0 */
     STATION_NO_SUCH_MESSAGE = 4,
     STATION_NOT_HELD = 5, /* the running task doesn't hold the message */
     STATION_NO_SUCH_TASK = 6,
@@ -61,8 +63,8 @@ enum {
 
 /* ---- an answer: refused with a number, or accepted (0) with a value, the task that runs and the message it was handed.
  * The value is what find, claim and receive give, else 0; 0 is no task and no message. With RULE_BROKEN, and else 0, come the
- * rule, 1 to 7, and the record that breaks it: the message with rule 4, the task with 2, 5, 6 and 7, and 0 with 1 and 3. If
- * several are broken, it is the lowest rule, and of its records the smallest. */
+ * rule, 1 to 7, and the record that breaks it: the message with rule 4, the task with 2, 5 and 6, 0 with 1 and 3, and with 7
+ * byte 1 as it is, which may be 0 or above 32. If several are broken, it is the lowest rule, and of its records the smallest. */
 typedef struct {
     uint8_t refusal;
     uint16_t value;
@@ -111,17 +113,18 @@ static inline const char *station_reason(uint8_t refusal)
     }
 }
 
-/* a broken rule in words; the answer's record is the task or the message */
+/* a broken rule in words; the answer's record is the task or the message, or byte 1. An old board is one that was to be
+ * converted. */
 static inline const char *station_rule(uint8_t rule)
 {
     switch (rule) {
-    case 1: return "bytes 1 to 3 are not zero";
+    case 1: return "bytes 2 and 3 are not zero (of an old board, 1 to 3)";
     case 2: return "the record of a task is neither zero nor that of a task (STAT and PRIO)";
     case 3: return "the task queue does not visit exactly the present tasks, in order of priority";
     case 4: return "the record of a message does not go with its place";
     case 5: return "the queue of a task does not visit exactly the messages placed there, in order of priority";
     case 6: return "WAIT, IWAT, INTQ and MHBS of a task do not go together, or not with its queue";
-    case 7: return "the running task is still due a message (MHBS)";
+    case 7: return "byte 1 names no task that may run (of an old board, the first ready task is due a message)";
     default: return "no rule has that number";
     }
 }
@@ -155,6 +158,15 @@ static inline station_answer station_look(const uint8_t *board, size_t len)
     return station_unpack(station_check(board, len));
 }
 
+/* Converts an old board, saved when byte 1 was zero and the first ready task in queue order ran: byte 1 names that task from now
+ * on, and nothing else changes. Tells who runs. Refused: WRONG_LENGTH, and RULE_BROKEN by the rules of then: 1 was of bytes 1 to
+ * 3, so a board with a running task is converted once only; 7 was of that task, which must not be due a message, and its record
+ * is its number. */
+static inline station_answer station_convert_old(uint8_t *board, size_t len)
+{
+    return station_unpack(station_convert(board, len));
+}
+
 /* The call of that kind; the wrappers below name its arguments. Refused: NO_CALL where there is none, else as the call is. */
 static inline station_answer station_ask(uint8_t *board, size_t len, uint8_t kind, uint16_t a, uint16_t b, uint16_t c,
                                          uint8_t stat, uint8_t prio)
@@ -164,12 +176,13 @@ static inline station_answer station_ask(uint8_t *board, size_t len, uint8_t kin
 
 /* ---- the nineteen calls, with their numbers in document 01 and their names in the manual, section 4.
  *
- * 'It' is the running task: the first in queue order that waits for nothing. Install, post and find serve anyone; the rest act
- * for it and are refused with NOBODY_RUNS where there is none. All are refused with WRONG_LENGTH and RULE_BROKEN where the board
- * is no board, so the comments below name the other refusals only. The lowest that applies is given.
+ * 'It' is the running task, which byte 1 names. Install, post and find serve anyone; the rest act for it and are refused with
+ * NOBODY_RUNS where there is none. All are refused with WRONG_LENGTH and RULE_BROKEN where the board is no board, so the comments
+ * below name the other refusals only. The lowest that applies is given.
  *
- * After each accepted call the answer tells the task that runs now, which may be another; if it was due a message (MHBS), it
- * has been handed the first of its queue, told as delivered. */
+ * After each accepted call the answer tells the task that runs now. It is the same as before while it is there, waits for
+ * nothing, and no other such task has a smaller priority number: an equal does not push it aside. Else it is the first in queue
+ * order that waits for nothing. If it was due a message (MHBS), it has been handed the first of its queue, told as delivered. */
 
 /* 1 Install (M8SN to the task queue): task k is there, behind those of equal priority. STAT is TCBB, with DEBUG and MROB as
  * one likes; PRIO is odd, 03H to FDH; SPTR and NAME are any words. Refused: BAD_PRIORITY, NOT_INSTALLABLE, BAD_STATUS. */

@@ -13,18 +13,16 @@ def word(b, i):
 
 def of_board(b):
     """What must be drawn: a row for each task, taken from the bytes."""
-    rows, k, nobody = [], b[0], True
+    rows, k = [], b[0]
     while k:
         at = 4 + 10 * (k - 1)
-        runs = nobody and not b[at] & 0xC0
-        nobody = nobody and not runs
         name = "".join(chr(c) if 32 <= c < 127 else "." for c in b[at + 8:at + 10])
         queue, m = [], word(b, at + 4)
         while m:
             queue.append((m, b[324 + 8 * (m - 1) + 1] // 2))
             m = word(b, 324 + 8 * (m - 1) + 2)
         held = [(m, b[324 + 8 * (m - 1) + 1] // 2) for m in range(1, 129) if b[1347 + m] == k]
-        rows.append((k, name, b[at + 1] // 2, runs, queue, held))
+        rows.append((k, name, b[at + 1] // 2, k == b[1], queue, held))
         k = word(b, at + 2)
     return rows
 

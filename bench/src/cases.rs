@@ -1,5 +1,5 @@
 //! The boards and the calls that are timed.
-use model::board::{set_word, word, Board, MsgNo, Status, TaskNo, BOARD_LEN, MESSAGES, TASKS};
+use model::board::{set_word, word, Board, MsgNo, Status, TaskNo, BOARD_LEN, MESSAGES, RUNNING, TASKS};
 use model::runner::history::History;
 use model::runner::random::Random;
 use model::{Answer, Call};
@@ -22,17 +22,19 @@ pub struct Case {
 
 impl Case {
     /// An error where the versions differ in an answer or a byte, or where the answer is not the one that is timed. The version of
-    /// a landing before may have none.
+    /// a landing before may have none; one that knows old boards only has no byte 1 to compare, but it must say that the same
+    /// task runs.
     pub fn compare(&self, versions: &[Version], before: Option<Version>) -> Result<(), String> {
         for board in &self.boards {
             let ask = |version: Version| {
-                let mut after = *board;
+                let mut after = version.form(board);
                 version.ask(&mut after, &self.asked).map(|answer| (answer, after))
             };
             let Some(told) = ask(versions[0]) else { return Err(format!("{}: the library cannot be asked", self.name)) };
             let is_timed = self.answer.map_or(told.0 as u8 == 0, |answer| told.0 == answer);
             let alike = versions.iter().all(|version| ask(*version) == Some(told));
-            if !is_timed || !alike || before.and_then(ask).is_some_and(|before| !is_as_before(told, before)) {
+            let as_before = |version: Version| ask(version).is_none_or(|before| is_as_before(told, before, version));
+            if !is_timed || !alike || !before.is_none_or(as_before) {
                 return Err(format!("{}: not the answer that is timed, or the answers or the boards differ", self.name));
             }
         }
@@ -41,13 +43,15 @@ impl Case {
 }
 
 /// Whether a library of a landing before does the same; it may give 2 alone, without the rule and the record.
-fn is_as_before((told, after): (u64, Board), before: (u64, Board)) -> bool {
-    before == (if before.0 == 2 { told & 0xFF } else { told }, after)
+fn is_as_before((told, after): (u64, Board), before: (u64, Board), version: Version) -> bool {
+    before == (if before.0 == 2 { told & 0xFF } else { told }, version.form(&after))
 }
 
-/// All rows.
+/// All rows. On their boards the first ready task runs, before the call and after it, so that a library which knows old boards
+/// only does the same.
 pub fn all() -> Vec<Case> {
-    checks().into_iter().chain(refused_checks()).chain(searches()).chain(claims()).chain(calls()).collect()
+    let checks = checks().into_iter().chain(refused_checks());
+    checks.chain(searches()).chain(claims()).chain(calls()).chain(calls_of_the_last()).collect()
 }
 
 fn checks() -> [Case; 6] {
@@ -73,6 +77,7 @@ fn refused_checks() -> [Case; 8] {
     let last_runs_and_is_due = |b: &mut Board| {
         TaskNo::all().for_each(|k| b[k.at()] |= Status::IWAT);
         b[last.at()] = Status::TCBB | Status::MHBS;
+        b[RUNNING] = last.byte();
     };
     [
         of_4("check, refused: R2 at the last of 32 tasks", 2, TASKS, &|b| b[last.prio_at()] = 0xFF),
@@ -127,6 +132,18 @@ fn calls() -> [Case; 6] {
     ]
 }
 
+/// Calls on boards with 31 tasks, where all but the last wait, the odd ones for a message and the even ones for an interrupt.
+/// They change nothing in who is ready.
+fn calls_of_the_last() -> [Case; 5] {
+    [
+        call("post to a task that waits for a message, last of 31 tasks runs", last_of_31_runs(), 2, [1, 0, 0]),
+        call("send to a task that waits for an interrupt, last of 31 tasks runs", held(last_of_31_runs(), 1), 8, [1, 2, 0]),
+        call("receive, last of 31 tasks runs", sent(held(last_of_31_runs(), 1), 1, |_| 31), 16, [0; 3]),
+        call("claim, last of 31 tasks runs", last_of_31_runs(), 5, [0; 3]),
+        call("find, last of 31 tasks, which runs", last_of_31_runs(), 3, [31, 0, 0]),
+    ]
+}
+
 fn check(name: &'static str, board: Board) -> Case {
     Case { name, asked: Asked::Check, boards: vec![board], turns: vec![0; 128], answer: None }
 }
@@ -167,7 +184,16 @@ fn last_runs() -> Board {
     board
 }
 
-/// Task 1 claims so many messages, each with one priority, FIFO.
+/// Of 31 tasks the last runs; the others wait in turn for a message and for an interrupt.
+fn last_of_31_runs() -> Board {
+    let mut board = tasks(31);
+    for k in 1..=30 {
+        made(&mut board, if k % 2 == 1 { Call::ReceiveAndWait } else { Call::WaitForInterrupt });
+    }
+    board
+}
+
+/// The running task claims so many messages, each with one priority, FIFO.
 fn held(mut board: Board, count: u16) -> Board {
     for _ in 0..count {
         let message = made(&mut board, Call::Claim);
@@ -200,7 +226,8 @@ fn message(number: u16) -> MsgNo {
     MsgNo::new(number).expect("a message")
 }
 
-/// Boards as random calls leave them, with few tasks and messages or many.
+/// Boards as random calls leave them, with few tasks and messages or many, where the first ready task runs: what comes of such a
+/// board by the conversion of its old form.
 fn histories(count: usize) -> Vec<Board> {
     let mut random = Random::new(99);
     let history = || {
@@ -214,5 +241,11 @@ fn histories(count: usize) -> Vec<Board> {
         }
         history.board
     };
-    std::iter::repeat_with(history).take(count).collect()
+    let is_of_old = |board: &Board| {
+        let mut old = *board;
+        old[RUNNING] = 0;
+        model::convert(&mut old);
+        old == *board
+    };
+    std::iter::repeat_with(history).filter(is_of_old).take(count).collect()
 }

@@ -1,6 +1,6 @@
 //! A version against the model, on the cases of the differential run: histories, damaged boards, wild arguments, wrong lengths.
 use model::board::BOARD_LEN;
-use model::runner::case::{CHECK, FRESH};
+use model::runner::case::{CHECK, CONVERT, FRESH};
 use model::runner::cases::cases_of_seed;
 
 use crate::version::{Request, Version, PLAIN};
@@ -38,7 +38,7 @@ pub fn on_cases(seed: u64, count: usize, version: Version) -> Result<Seen, Strin
         if version.lowest_free(&case.board).is_some_and(|found| Some(found) != free) {
             return differs("lowest free message");
         }
-        if [CHECK, FRESH].contains(&asked.kind) {
+        if [CHECK, FRESH, CONVERT].contains(&asked.kind) {
             continue;
         }
         let request = Request { kind: asked.kind, words: [asked.a, asked.b, asked.c], stat: asked.stat, prio: asked.prio };

@@ -2,8 +2,8 @@
 //! that of the landing before.
 //!
 //! First all versions but BEFORE are compared on many boards, damaged ones among them, and all on the boards that are timed. They
-//! must give the same answers and the same bytes, or the run ends there; only BEFORE may give 2 without the rule, or have no search
-//! by itself.
+//! must give the same answers and the same bytes, or the run ends there; only BEFORE may give 2 without the rule, have no search
+//! by itself, or know boards only where byte 1 is zero: it is lent those.
 use std::env::args;
 use std::process::ExitCode;
 

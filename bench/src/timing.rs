@@ -32,7 +32,7 @@ impl Timing {
     /// Nanoseconds of the case for each version; nothing for one that cannot be asked. They take turns, so that none is the worse
     /// for coming first.
     pub fn of_case(&self, case: &Case, versions: &[Version]) -> Vec<Option<f64>> {
-        let can_be_asked = |version: &Version| version.ask(&mut { case.boards[0] }, &case.asked).is_some();
+        let can_be_asked = |version: &Version| version.ask(&mut version.form(&case.boards[0]), &case.asked).is_some();
         let mut times: Vec<Option<f64>> = versions.iter().map(|version| can_be_asked(version).then_some(f64::INFINITY)).collect();
         for _ in 0..self.turns {
             for (time, &version) in times.iter_mut().zip(versions) {
@@ -44,8 +44,8 @@ impl Timing {
 
     fn of_version(&self, case: &Case, version: Version) -> f64 {
         match case.asked {
-            Asked::Check => self.looks(case, |board| version.check(board)),
-            Asked::LowestFree => self.looks(case, |board| version.lowest_free(board)),
+            Asked::Check => self.looks(case, version, |board| version.check(board)),
+            Asked::LowestFree => self.looks(case, version, |board| version.lowest_free(board)),
             Asked::Call(request) => self.calls(case, version, &request),
         }
     }
@@ -61,8 +61,8 @@ impl Timing {
     }
 
     /// A look at the case's boards, one after the other as the case says.
-    fn looks<T>(&self, case: &Case, look: impl Fn(&Board) -> T) -> f64 {
-        let mut boards: Vec<Lent> = case.boards.iter().copied().map(Lent).collect();
+    fn looks<T>(&self, case: &Case, version: Version, look: impl Fn(&Board) -> T) -> f64 {
+        let mut boards: Vec<Lent> = case.boards.iter().map(|board| Lent(version.form(board))).collect();
         let batch = |boards: &mut Vec<Lent>| {
             for &turn in &case.turns {
                 black_box(look(black_box(&boards[turn].0)));
@@ -73,8 +73,9 @@ impl Timing {
 
     /// The call on 16 equal boards in a row, few enough for the nearest cache; they are put back between the batches.
     fn calls(&self, case: &Case, version: Version, request: &Request) -> f64 {
-        let mut boards = [Lent(case.boards[0]); 16];
-        let put_back = |boards: &mut [Lent; 16]| *boards = [Lent(*black_box(&case.boards[0])); 16];
+        let lent = Lent(version.form(&case.boards[0]));
+        let mut boards = [lent; 16];
+        let put_back = |boards: &mut [Lent; 16]| *boards = [*black_box(&lent); 16];
         let batch = |boards: &mut [Lent; 16]| {
             for board in boards {
                 black_box(version.call(&mut board.0, black_box(request)));

@@ -2,11 +2,13 @@
 //!
 //! * Places are looked at eight at a time: eight free messages are one OR of eight words, eight held ones three sums of bits, and
 //!   eight queued ones are left to the walk.
-//! * One walk of the task queue tests R2 of each present task, R3, R6 and R7, and walks its messages (R5, and R4 of the queued
-//!   ones). It gathers faults and branches little, since it waits for the next link anyway. If it meets as many messages as have a
-//!   place of 64 or more, it met each of them, and once. The tasks that it did not meet must be zeros, eight at a time.
+//! * One walk of the task queue tests R2 of each present task, R3 and R6, sees whose number a running task must have (R7), and
+//!   walks the task's messages (R5, and R4 of the queued ones). It gathers faults and branches little, since it waits for the
+//!   next link anyway. If it meets as many messages as have a place of 64 or more, it met each of them, and once. The tasks that
+//!   it did not meet must be zeros, eight at a time.
 //! * The check hands on what it has found: who runs, who is present, the last task, and the last message of each queue. A call
-//!   starts from there, and dispatch looks for the running task only where the call can have changed it.
+//!   starts from there. Who runs then is the running task or the one that the call has made ready, whichever has the smaller
+//!   number; the first ready one is looked for only where the running task is ready no more.
 //!
 //! So the rules are no longer apart, as the definitions and the proved code have them. Which one is broken, and where, is found by
 //! a second look, on refused boards only.

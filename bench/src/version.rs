@@ -3,7 +3,7 @@
 use std::ffi::{c_char, c_int, c_void, CString};
 use std::mem::transmute;
 
-use model::board::{Board, MsgNo};
+use model::board::{Board, MsgNo, RUNNING};
 use model::calls::lowest_free;
 use model::{Answer, Call};
 
@@ -42,8 +42,17 @@ type CSearch = unsafe extern "C" fn(*const u8, usize) -> u16;
 pub enum Version {
     /// Functions of Rust.
     Rust(RustCheck, RustCall, RustSearch),
-    /// Functions of a library; it may have no search by itself.
-    C(CCheck, CCall, Option<CSearch>),
+    /// Functions of a library, which may have no search by itself, and which boards it knows.
+    C(CCheck, CCall, Option<CSearch>, Boards),
+}
+
+/// Which boards a library knows.
+#[derive(Clone, Copy)]
+pub enum Boards {
+    /// Byte 1 is zero, and the first ready task runs.
+    Old,
+    /// Byte 1 names who runs.
+    New,
 }
 
 /// The package `model`.
@@ -67,10 +76,22 @@ impl Version {
             (!function.is_null()).then_some(function).ok_or(format!("{path} has no {name}"))
         };
         let (check, call, search) = (find("station_check")?, find("station_call")?, find("timed_lowest_free").ok());
+        // the conversion came with the new boards
+        let boards = if find("station_convert").is_ok() { Boards::New } else { Boards::Old };
         // SAFETY: the functions are of the types that include/station.h and crates/timed say
         let (check, call) = unsafe { (transmute::<*mut c_void, CCheck>(check), transmute::<*mut c_void, CCall>(call)) };
         // SAFETY: the same
-        Ok(Version::C(check, call, search.map(|search| unsafe { transmute::<*mut c_void, CSearch>(search) })))
+        let search = search.map(|search| unsafe { transmute::<*mut c_void, CSearch>(search) });
+        Ok(Version::C(check, call, search, boards))
+    }
+
+    /// The board in the form that the version knows.
+    pub fn form(self, board: &Board) -> Board {
+        let mut board = *board;
+        if let Version::C(.., Boards::Old) = self {
+            board[RUNNING] = 0;
+        }
+        board
     }
 
     /// The check.
@@ -90,7 +111,7 @@ impl Version {
         match self {
             Version::Rust(_, call, _) => call(board, kind, [a, b, c], stat, prio),
             // SAFETY: the library reads and writes the lent bytes only, and keeps no pointer
-            Version::C(_, call, _) => unsafe { call(board.as_mut_ptr(), board.len(), kind, a, b, c, stat, prio) },
+            Version::C(_, call, ..) => unsafe { call(board.as_mut_ptr(), board.len(), kind, a, b, c, stat, prio) },
         }
     }
 
@@ -100,7 +121,7 @@ impl Version {
         match self {
             Version::Rust(.., search) => Some(search(board)),
             // SAFETY: the library reads the lent bytes only
-            Version::C(.., search) => search.map(|search| unsafe { search(board.as_ptr(), board.len()) }),
+            Version::C(_, _, search, _) => search.map(|search| unsafe { search(board.as_ptr(), board.len()) }),
         }
     }
 

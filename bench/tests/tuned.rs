@@ -35,6 +35,13 @@ fn a_version_that_errs_is_noticed() {
         let told = TUNED.call(board, &Request { kind, words, stat, prio });
         told | u64::from(told == 0x0302) << 16
     };
+    let byte_1_left = |board: &mut [u8], kind, words, stat, prio| {
+        let before = board.get(1).copied();
+        let told = TUNED.call(board, &Request { kind, words, stat, prio });
+        board.iter_mut().skip(1).zip(before).for_each(|(byte, before)| *byte = before);
+        told
+    };
+    let r7_names_nobody = |board: &[u8]| if TUNED.check(board) as u16 == 0x0702 { 0x0702 } else { TUNED.check(board) };
     // in place of the one that is free the first of its group
     let first_of_group = |board: &[u8]| tuned::lowest_free(board).checked_sub(1).map_or(0, |before| before / 4 * 4 + 1);
     let erring = [
@@ -42,6 +49,8 @@ fn a_version_that_errs_is_noticed() {
         Version::Rust(check, call, tuned::lowest_free),
         Version::Rust(no_rule, tuned::call, tuned::lowest_free),
         Version::Rust(tuned::check, record_with_r3, tuned::lowest_free),
+        Version::Rust(tuned::check, byte_1_left, tuned::lowest_free),
+        Version::Rust(r7_names_nobody, tuned::call, tuned::lowest_free),
         Version::Rust(tuned::check, tuned::call, first_of_group),
     ];
     assert!(erring.into_iter().all(|version| (1001..=1003).any(|seed| on_cases(seed, 2000, version).is_err())));

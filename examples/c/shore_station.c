@@ -135,8 +135,9 @@ static void turn(uint16_t task)
 
 /* ---- the station */
 
-/* A board that comes from elsewhere is looked at before it is used. One that cannot exist is told with the rule that it breaks
- * and the record: with rule 4 a message, else a task, or 0 where the rule is not one for each. */
+/* A board that comes from elsewhere is looked at before it is used (one that was saved when byte 1 was always zero goes through
+ * station_convert_old first). One that cannot exist is told with the rule that it breaks and the record: with rule 4 a message,
+ * with rule 7 byte 1, else a task, or 0 where the rule is not one for each. */
 static void look_at(const uint8_t *bytes, size_t len)
 {
     station_answer answer = station_look(bytes, len);

@@ -88,7 +88,7 @@ impl Refusal {
 /// A broken rule of the board, with the task or message that breaks it. Of several the lowest is named, then the smallest.
 #[derive(Clone, Copy, Debug, PartialEq, Eq)]
 pub enum Rule {
-    /// Bytes 1 to 3.
+    /// Bytes 2 and 3; of an old board that is converted, bytes 1 to 3.
     R1,
     /// The record of a task.
     R2(TaskNo),
@@ -100,8 +100,8 @@ pub enum Rule {
     R5(TaskNo),
     /// The status of a task against its queue.
     R6(TaskNo),
-    /// The running task.
-    R7(TaskNo),
+    /// Byte 1, as it is: it may be 0 or name no task. Of an old board, the first ready task.
+    R7(u8),
 }
 
 impl Rule {
@@ -118,12 +118,13 @@ impl Rule {
         }
     }
 
-    /// The number of the task or message, 0 where the rule is not one for each.
+    /// The number of the task or message, 0 where the rule is not one for each; with R7 byte 1.
     pub fn record(self) -> u16 {
         match self {
             Rule::R1 | Rule::R3 => 0,
             Rule::R4(m) => m.number(),
-            Rule::R2(k) | Rule::R5(k) | Rule::R6(k) | Rule::R7(k) => k.number(),
+            Rule::R2(k) | Rule::R5(k) | Rule::R6(k) => k.number(),
+            Rule::R7(byte) => byte.into(),
         }
     }
 }

@@ -1,8 +1,7 @@
 //! The board's bytes: where each record lies, and its fields read and written in place.
 //!
-//! A link is named by where its word lies, its *slot*: the head of a queue and the LINK of a record are then alike, and a
-//! record is put in or taken out by writing at a slot. The task queue's head fits too: its word is bytes 0 and 1, and byte 1
-//! is zero on every board that passes.
+//! A link is named by where it lies, its *slot*: the head of a queue and the LINK of a record are then alike, and a record is
+//! put in or taken out by writing at a slot. Only the head of the task queue is a byte and no word, since byte 1 says who runs.
 
 /// How many bytes a board has.
 pub const BOARD_LEN: usize = 1476;
@@ -18,6 +17,8 @@ pub type Board = [u8; BOARD_LEN];
 
 /// The slot of the task queue's head.
 pub const TASK_QUEUE: usize = 0;
+/// Where the running task is named, 0 for none.
+pub const RUNNING: usize = 1;
 /// Where the task records begin.
 pub const TASKS_AT: usize = 4;
 /// Bytes of a task record.
@@ -42,18 +43,36 @@ pub fn set_word(b: &mut Board, at: usize, word: u16) {
     b[at..at + 2].copy_from_slice(&word.to_le_bytes());
 }
 
+/// The number to which a slot leads, 0 at the end of a queue.
+pub fn link(b: &Board, slot: usize) -> u16 {
+    if slot == TASK_QUEUE {
+        b[TASK_QUEUE].into()
+    } else {
+        word(b, slot)
+    }
+}
+
+/// Writes the number to which a slot leads: of a task, where it is the head of the task queue.
+pub fn set_link(b: &mut Board, slot: usize, number: u16) {
+    if slot == TASK_QUEUE {
+        b[TASK_QUEUE] = number as u8;
+    } else {
+        set_word(b, slot, number);
+    }
+}
+
 /// Puts a record, by its number and its own link, where a slot leads.
 pub fn link_in(b: &mut Board, slot: usize, number: u16, own_link: usize) {
-    let after = word(b, slot);
-    set_word(b, own_link, after);
-    set_word(b, slot, number);
+    let after = link(b, slot);
+    set_link(b, own_link, after);
+    set_link(b, slot, number);
 }
 
 /// Takes out the record to which a slot leads and which has this link.
 pub fn link_out(b: &mut Board, slot: usize, own_link: usize) {
-    let after = word(b, own_link);
-    set_word(b, slot, after);
-    set_word(b, own_link, 0);
+    let after = link(b, own_link);
+    set_link(b, slot, after);
+    set_link(b, own_link, 0);
 }
 
 /// The STAT byte of a task.
@@ -110,6 +129,11 @@ impl TaskNo {
         self.0.into()
     }
 
+    /// Its number as a byte.
+    pub fn byte(self) -> u8 {
+        self.0
+    }
+
     /// Where its record begins.
     pub fn at(self) -> usize {
         TASKS_AT + TASK_LEN * (usize::from(self.0) - 1)
@@ -155,9 +179,9 @@ impl TaskNo {
         self.status(b).has(Status::TCBB)
     }
 
-    /// Whether the present task neither waits for a message nor for an interrupt.
+    /// Whether the task is present and neither waits for a message nor for an interrupt.
     pub fn is_ready(self, b: &Board) -> bool {
-        !self.status(b).has(Status::WAIT | Status::IWAT)
+        self.is_present(b) && !self.status(b).has(Status::WAIT | Status::IWAT)
     }
 
     /// The place of a message that the task holds.

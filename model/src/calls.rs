@@ -2,10 +2,10 @@
 
 use crate::answer::{Answer, Refusal};
 use crate::board::{
-    link_in, link_out, set_word, word, Board, MsgNo, Status, TaskNo, BOARD_LEN, MESSAGE_LEN, PLACES_AT, SENDERS_PRIORITY, TASKS,
-    TASK_LEN, TASK_QUEUE,
+    link, link_in, link_out, set_word, word, Board, MsgNo, Status, TaskNo, BOARD_LEN, MESSAGE_LEN, PLACES_AT, RUNNING,
+    SENDERS_PRIORITY, TASKS, TASK_LEN, TASK_QUEUE,
 };
-use crate::check::{examine, running};
+use crate::check::{examine, first_ready, running};
 
 /// A call with its arguments: numbers are any words, STAT and PRIO any bytes.
 #[derive(Clone, Copy, Debug, PartialEq, Eq)]
@@ -76,15 +76,15 @@ pub fn step(b: &mut [u8], call: Call) -> Answer {
     };
     match examine(b).map_err(Refusal::BrokenRule).and_then(|running| effect(b, running, call)) {
         Err(refusal) => Answer::Refused(refusal),
-        Ok(value) => dispatch(b, value),
+        Ok(value) => dispatch(b, runs_next(b), value),
     }
 }
 
 /// The value that a call gives, or why it is refused.
-type Done = Result<u16, Refusal>;
+pub(crate) type Done = Result<u16, Refusal>;
 
-/// What a call does before dispatch.
-fn effect(b: &mut Board, running: Option<TaskNo>, call: Call) -> Done {
+/// What a call does before it is asked who runs.
+pub(crate) fn effect(b: &mut Board, running: Option<TaskNo>, call: Call) -> Done {
     let c = running.ok_or(Refusal::NoneRunning);
     match call {
         Call::Install { task, stat, prio, sptr, name } => install(b, task, stat, prio, sptr, name),
@@ -121,10 +121,19 @@ fn effect(b: &mut Board, running: Option<TaskNo>, call: Call) -> Done {
     }
 }
 
-/// Dispatch, which ends every accepted call. On a board that passed the check, MHBS is never over an empty queue, here or after
-/// any call, so its refusal stands for the paper's last number only and need not undo a thing.
-fn dispatch(b: &mut Board, value: u16) -> Answer {
-    let Some(c) = running(b) else {
+/// Who runs after the effect of a call: the task of byte 1, if it is still present and ready and no ready task has a smaller
+/// priority number; otherwise the first ready task in queue order.
+pub(crate) fn runs_next(b: &Board) -> Option<TaskNo> {
+    let first = first_ready(b);
+    let is_outranked = |c: TaskNo| first.is_some_and(|first| first.prio(b) < c.prio(b));
+    running(b).filter(|c| c.is_ready(b) && !is_outranked(*c)).or(first)
+}
+
+/// Dispatch, which ends every accepted call: this task runs now. On a board that passed the check, MHBS is never over an empty
+/// queue, here or after any call, so its refusal stands for the paper's last number only and need not undo a thing.
+pub(crate) fn dispatch(b: &mut Board, running: Option<TaskNo>, value: u16) -> Answer {
+    b[RUNNING] = running.map_or(0, TaskNo::byte);
+    let Some(c) = running else {
         return Answer::Accepted { value, running: 0, delivered: 0 };
     };
     let mut delivered = 0;
@@ -160,7 +169,7 @@ fn place(b: &mut Board, m: MsgNo, r: TaskNo) {
     let fifo = b[m.prio_at()] & 1 == 1;
     let priority = m.priority(b);
     let mut slot = r.queue_slot();
-    while let Some(other) = MsgNo::new(word(b, slot)) {
+    while let Some(other) = MsgNo::new(link(b, slot)) {
         let theirs = other.priority(b);
         if theirs > priority || (theirs == priority && !fifo) {
             break;
@@ -208,7 +217,7 @@ fn install(b: &mut Board, task: u16, stat: u8, prio: u8, sptr: u16, name: u16) -
         return Err(Refusal::InstallStatus);
     }
     let mut slot = TASK_QUEUE;
-    while let Some(other) = TaskNo::new(word(b, slot)).filter(|other| other.prio(b) <= prio) {
+    while let Some(other) = TaskNo::new(link(b, slot)).filter(|other| other.prio(b) <= prio) {
         slot = other.link_slot();
     }
     b[k.at()] = stat;
@@ -226,7 +235,7 @@ fn cancel_task(b: &mut Board, task: u16) -> Done {
         return Err(Refusal::TaskBusy);
     }
     let mut slot = TASK_QUEUE;
-    while let Some(other) = TaskNo::new(word(b, slot)).filter(|other| *other != k) {
+    while let Some(other) = TaskNo::new(link(b, slot)).filter(|other| *other != k) {
         slot = other.link_slot();
     }
     link_out(b, slot, k.link_slot());
@@ -236,7 +245,7 @@ fn cancel_task(b: &mut Board, task: u16) -> Done {
 
 fn find(b: &Board, name: u16) -> u16 {
     let mut slot = TASK_QUEUE;
-    while let Some(k) = TaskNo::new(word(b, slot)) {
+    while let Some(k) = TaskNo::new(link(b, slot)) {
         if k.name(b) == name {
             return k.number();
         }
@@ -342,7 +351,7 @@ fn cancel_message(b: &mut Board, c: TaskNo, message: u16, receiver: u16) -> Done
         return Err(Refusal::NotSender);
     }
     let mut slot = r.queue_slot();
-    while let Some(other) = MsgNo::new(word(b, slot)).filter(|other| *other != m) {
+    while let Some(other) = MsgNo::new(link(b, slot)).filter(|other| *other != m) {
         slot = other.link_slot();
     }
     take(b, slot, m, c);

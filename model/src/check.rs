@@ -1,34 +1,45 @@
-//! The rules R1 to R7, and who runs. Every record is read once, and once more where a queue leads to it.
+//! The rules R1 to R7, and who is ready. Every record is read once, and once more where a queue leads to it.
 
 use crate::answer::{Answer, Refusal, Rule};
-use crate::board::{word, Board, MsgNo, Status, TaskNo, MESSAGE_LEN, TASKS, TASK_LEN, TASK_QUEUE};
+use crate::board::{link, word, Board, MsgNo, Status, TaskNo, MESSAGE_LEN, RUNNING, TASKS, TASK_LEN, TASK_QUEUE};
 
 /// Checks a board: refused with 1, or with 2 and the broken rule, or accepted with the running task.
 pub fn check(b: &[u8]) -> Answer {
     let Ok(b) = <&Board>::try_from(b) else {
         return Answer::Refused(Refusal::Length);
     };
-    match examine(b) {
+    answer(examine(b))
+}
+
+/// Who runs on a good board; else the lowest rule that is broken, with the smallest task or message that breaks it.
+pub(crate) type Examined = Result<Option<TaskNo>, Rule>;
+
+/// What a look at a board hands back.
+pub(crate) fn answer(examined: Examined) -> Answer {
+    match examined {
         Err(rule) => Answer::Refused(Refusal::BrokenRule(rule)),
         Ok(running) => Answer::Accepted { value: 0, running: running.map_or(0, TaskNo::number), delivered: 0 },
     }
 }
 
-/// Who runs on a good board; else the lowest rule that is broken, with the smallest task or message that breaks it.
-pub(crate) fn examine(b: &Board) -> Result<Option<TaskNo>, Rule> {
-    keeps(b[1..4] == [0; 3], Rule::R1)?;
+/// All rules.
+pub(crate) fn examine(b: &Board) -> Examined {
+    keeps(b[2..4] == [0; 2], Rule::R1)?;
+    examine_records(b)?;
+    keeps(running_is_good(b), Rule::R7(b[RUNNING]))?;
+    Ok(running(b))
+}
+
+/// R2 to R6, which say nothing of bytes 1 to 3.
+pub(crate) fn examine_records(b: &Board) -> Result<(), Rule> {
     each_keeps(TaskNo::all(), |k| task_is_good(b, k), Rule::R2)?;
     keeps(task_queue_is_good(b), Rule::R3)?;
     let queued = queued_messages(b)?;
     each_keeps(present(b), |k| queue_is_good(b, k, queued[usize::from(k.number())]), Rule::R5)?;
-    each_keeps(present(b), |k| status_fits(b, k), Rule::R6)?;
-    match running(b) {
-        Some(c) if c.status(b).has(Status::MHBS) => Err(Rule::R7(c)),
-        running => Ok(running),
-    }
+    each_keeps(present(b), |k| status_fits(b, k), Rule::R6)
 }
 
-fn keeps(good: bool, rule: Rule) -> Result<(), Rule> {
+pub(crate) fn keeps(good: bool, rule: Rule) -> Result<(), Rule> {
     if good {
         Ok(())
     } else {
@@ -46,11 +57,16 @@ fn present(b: &Board) -> impl Iterator<Item = TaskNo> + '_ {
     TaskNo::all().filter(|k| k.is_present(b))
 }
 
-/// The first ready task in queue order, on a board that keeps R3.
+/// The task that byte 1 names.
 pub(crate) fn running(b: &Board) -> Option<TaskNo> {
+    TaskNo::new(b[RUNNING].into())
+}
+
+/// The first ready task in queue order, on a board that keeps R3. Its priority number is the smallest of a ready one.
+pub(crate) fn first_ready(b: &Board) -> Option<TaskNo> {
     let mut slot = TASK_QUEUE;
     loop {
-        let k = TaskNo::new(word(b, slot))?;
+        let k = TaskNo::new(link(b, slot))?;
         if k.is_ready(b) {
             return Some(k);
         }
@@ -70,18 +86,18 @@ pub(crate) fn task_is_good(b: &Board, k: TaskNo) -> bool {
 /// R3. A walk that meets as many present tasks as there are and then ends has met each once: had it met one twice, it would
 /// go round for ever.
 pub(crate) fn task_queue_is_good(b: &Board) -> bool {
-    let mut link = u16::from(b[TASK_QUEUE]);
+    let mut slot = TASK_QUEUE;
     let mut least = 0;
     for _ in present(b) {
-        let Some(k) = TaskNo::new(link) else { return false };
+        let Some(k) = TaskNo::new(link(b, slot)) else { return false };
         let prio = k.prio(b);
         if !k.is_present(b) || prio < least {
             return false;
         }
         least = prio;
-        link = word(b, k.link_slot());
+        slot = k.link_slot();
     }
-    link == 0
+    link(b, slot) == 0
 }
 
 /// R4: how many messages are queued at each task.
@@ -133,4 +149,11 @@ pub(crate) fn status_fits(b: &Board, k: TaskNo) -> bool {
     let iwat_fits = !s.has(Status::IWAT) || !s.has(Status::INTQ | Status::MHBS);
     let mhbs_fits = !s.has(Status::MHBS) || !queue_is_empty;
     wait_fits && iwat_fits && mhbs_fits
+}
+
+/// R7. The task of byte 1 need not be the first of its equals, and these may be due a message.
+pub(crate) fn running_is_good(b: &Board) -> bool {
+    let Some(first) = first_ready(b) else { return b[RUNNING] == 0 };
+    let may_run = |c: TaskNo| c.is_ready(b) && c.prio(b) == first.prio(b) && !c.status(b).has(Status::MHBS);
+    running(b).is_some_and(may_run)
 }

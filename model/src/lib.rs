@@ -7,8 +7,9 @@
 //! | Module | Holds |
 //! |---|---|
 //! | [`board`] | where each record lies, and its fields |
-//! | [`check`](mod@check) | the rules R1 to R7, and who runs |
-//! | [`calls`] | the nineteen calls, the wait forms and dispatch |
+//! | [`check`](mod@check) | the rules R1 to R7, and who is ready |
+//! | [`calls`] | the nineteen calls, the wait forms, who runs then, and dispatch |
+//! | [`convert`](mod@convert) | the conversion of old boards, and their rules |
 //! | [`answer`] | answers, refusals and rules by number |
 //! | [`runner`] | the differential run: cases made from a seed, another program's answers, and the counts |
 //!
@@ -26,8 +27,10 @@ pub mod answer;
 pub mod board;
 pub mod calls;
 pub mod check;
+pub mod convert;
 pub mod runner;
 
 pub use answer::{Answer, Refusal, Rule};
 pub use calls::{fresh, step, Call};
 pub use check::check;
+pub use convert::convert;

@@ -1,7 +1,7 @@
-//! The worked boards of document 01, and the order of refusals.
+//! The worked boards of document 01, the order of refusals, and who runs and the conversion of old boards (Ask 3).
 
-use model::board::{word, Board, MsgNo, Status, TaskNo, BOARD_LEN};
-use model::{check, fresh, step, Answer, Call, Refusal, Rule};
+use model::board::{word, Board, MsgNo, Status, TaskNo, BOARD_LEN, RUNNING};
+use model::{check, convert, fresh, step, Answer, Call, Refusal, Rule};
 
 const EMPTY: Board = [0; BOARD_LEN];
 
@@ -83,7 +83,7 @@ fn first_install() {
     let call = Call::Install { task: 3, stat: 0x05, prio: 0x33, sptr: 0x1234, name: 0x4154 };
     assert_eq!(step(&mut b, call), accepted(0, 3, 0));
     let mut wanted = EMPTY;
-    wanted[0] = 3;
+    wanted[..2].copy_from_slice(&[3, 3]);
     wanted[24..34].copy_from_slice(&[0x05, 0x33, 0, 0, 0, 0, 0x34, 0x12, 0x54, 0x41]);
     assert_eq!(b, wanted);
 }
@@ -163,6 +163,7 @@ fn numbers_and_lengths_beyond_the_board() {
         let mut lent = vec![7; len];
         assert_eq!(check(&lent), Answer::Refused(Refusal::Length));
         assert_eq!(fresh(&mut lent), Answer::Refused(Refusal::Length));
+        assert_eq!(convert(&mut lent), Answer::Refused(Refusal::Length));
         assert_eq!(step(&mut lent, Call::Claim), Answer::Refused(Refusal::Length));
         assert!(lent.iter().all(|byte| *byte == 7));
     }
@@ -242,7 +243,7 @@ fn the_lowest_refusal_is_given() {
     accept(&mut b, Call::Prepare { message, stat: 0, prio: 1, sptr: 9 });
     accept(&mut b, Call::Send { message, receiver: 1 });
     refuse(&b, Call::CancelMessage { message, receiver: 1 }, 13);
-    b[1] = 1;
+    b[2] = 1;
     refuse(&b, Call::Send { message: 0, receiver: 0 }, 2);
 }
 
@@ -269,6 +270,7 @@ fn with_queues() -> Board {
 fn each_rule_is_named_with_its_record() {
     let good = with_queues();
     assert_eq!(broken(&good, |_| ()), None);
+    assert_eq!(broken(&good, |b| b[2] = 1), Some(Rule::R1));
     assert_eq!(broken(&good, |b| b[3] = 1), Some(Rule::R1));
     assert_eq!(broken(&good, |b| b[0] = 2), Some(Rule::R3));
     for number in [1, 17, 32] {
@@ -277,10 +279,10 @@ fn each_rule_is_named_with_its_record() {
         assert_eq!(broken(&good, |b| b[k.queue_slot()] = 0), Some(Rule::R5(k)));
         assert_eq!(broken(&good, |b| b[k.at()] |= Status::WAIT), Some(Rule::R6(k)));
         let runs_and_is_due = |b: &mut Board| {
-            (1..number).for_each(|other| b[task(other).at()] |= Status::IWAT);
+            b[RUNNING] = k.byte();
             b[k.at()] |= Status::MHBS;
         };
-        assert_eq!(broken(&good, runs_and_is_due), Some(Rule::R7(k)));
+        assert_eq!(broken(&good, runs_and_is_due), Some(Rule::R7(k.byte())));
     }
     for m in [1, 64, 128].map(message) {
         assert_eq!(broken(&good, |b| b[m.place_at()] = 64), Some(Rule::R4(m)));
@@ -325,4 +327,175 @@ fn every_call_names_the_rule() {
         assert_eq!(step(&mut b, call), Answer::Refused(Refusal::BrokenRule(Rule::R5(k))));
         assert_eq!(b, before);
     }
+}
+
+// Who runs
+
+/// Two samplers of one priority: the earlier waits for an interrupt, and the later runs.
+fn with_samplers() -> Board {
+    let mut b = with_tasks(&[0x33, 0x33]);
+    assert_eq!(accept(&mut b, Call::WaitForInterrupt), (0, 2, 0));
+    b
+}
+
+/// The same with the earlier waiting for a message.
+fn with_receiver() -> Board {
+    let mut b = with_tasks(&[0x33, 0x33]);
+    assert_eq!(accept(&mut b, Call::ReceiveAndWait), (0, 2, 0));
+    b
+}
+
+#[test]
+fn an_equal_does_not_push_the_running_task_aside() {
+    let mut b = with_samplers();
+    assert_eq!(accept(&mut b, Call::Post { task: 1 }), (0, 2, 0));
+    assert_eq!(b[RUNNING], 2);
+    assert_eq!(check(&b), accepted(0, 2, 0));
+    assert_eq!(accept(&mut b, install(3, 0x33)), (0, 2, 0));
+    assert_eq!(accept(&mut b, Call::Find { name: 1 }), (0, 2, 0));
+    // once it waits, the first ready one in queue order runs
+    assert_eq!(accept(&mut b, Call::WaitForInterrupt), (0, 1, 0));
+    assert_eq!(accept(&mut b, Call::Post { task: 2 }), (0, 1, 0));
+}
+
+#[test]
+fn a_smaller_number_runs_at_once() {
+    let mut b = with_tasks(&[0x31, 0x33]);
+    assert_eq!(accept(&mut b, Call::WaitForInterrupt), (0, 2, 0));
+    assert_eq!(accept(&mut b, Call::Post { task: 1 }), (0, 1, 0));
+    assert_eq!(accept(&mut b, install(3, 0x2F)), (0, 3, 0));
+    assert_eq!(b[RUNNING], 3);
+}
+
+#[test]
+fn an_earlier_equal_may_be_due_a_message() {
+    let mut b = with_receiver();
+    let message = claim_prepared(&mut b, 0x15);
+    assert_eq!(accept(&mut b, Call::Send { message, receiver: 1 }), (0, 2, 0));
+    assert_eq!(task(1).status(&b), Status(Status::MHBS | Status::TCBB));
+    assert_eq!(check(&b), accepted(0, 2, 0));
+    // it is handed over when its receiver runs
+    assert_eq!(accept(&mut b, Call::WaitForInterrupt), (0, 1, message));
+}
+
+#[test]
+fn the_running_task_that_is_due_its_own_message_runs_on() {
+    let mut b = with_samplers();
+    let message = claim_prepared(&mut b, 0x15);
+    accept(&mut b, Call::Post { task: 1 });
+    assert_eq!(accept(&mut b, Call::SendAndWait { message, receiver: 2 }), (0, 2, message));
+}
+
+#[test]
+fn who_is_outranked_is_handed_nothing_yet() {
+    let mut b = with_tasks(&[0x03, 0x05]);
+    accept(&mut b, Call::ReceiveAndWait);
+    let own = claim_and_send(&mut b, 0x15, 2);
+    let message = claim_prepared(&mut b, 0x15);
+    assert_eq!(accept(&mut b, Call::SendAndWait { message, receiver: 1 }), (0, 1, message));
+    assert_eq!(task(2).status(&b), Status(Status::MHBS | Status::TCBB));
+    assert_eq!(queue(&b, 2), [own]);
+    assert_eq!(accept(&mut b, Call::WaitForInterrupt), (0, 2, own));
+}
+
+#[test]
+fn a_task_that_is_cancelled_runs_no_more() {
+    let mut b = with_samplers();
+    accept(&mut b, Call::Post { task: 1 });
+    assert_eq!(accept(&mut b, Call::CancelTask { task: 2 }), (0, 1, 0));
+    assert_eq!(accept(&mut b, install(2, 0x33)), (0, 1, 0));
+    // the other one goes, and who runs stays
+    assert_eq!(accept(&mut b, Call::CancelTask { task: 2 }), (0, 1, 0));
+    assert_eq!(accept(&mut b, Call::CancelTask { task: 1 }), (0, 0, 0));
+    assert_eq!(b, EMPTY);
+}
+
+#[test]
+fn nobody_is_ready() {
+    let mut b = with_samplers();
+    assert_eq!(accept(&mut b, Call::ReceiveAndWait), (0, 0, 0));
+    assert_eq!(b[RUNNING], 0);
+    assert_eq!(check(&b), accepted(0, 0, 0));
+    refuse(&b, Call::Claim, 3);
+    assert_eq!(accept(&mut b, Call::Post { task: 2 }), (0, 0, 0));
+    assert_eq!(accept(&mut b, Call::Post { task: 1 }), (0, 1, 0));
+}
+
+#[test]
+fn a_wrong_byte_1_is_rule_7_with_that_byte() {
+    let mut good = with_samplers();
+    accept(&mut good, install(3, 0x35));
+    assert_eq!(broken(&good, |_| ()), None);
+    // nobody, one that waits, one of a larger number, absent ones, and no tasks
+    for byte in [0, 1, 3, 4, 32, 33, 64, 66, 128, 255] {
+        assert_eq!(broken(&good, |b| b[RUNNING] = byte), Some(Rule::R7(byte)));
+    }
+    let mut none_ready = with_samplers();
+    accept(&mut none_ready, Call::WaitForInterrupt);
+    for byte in [1, 2, 3, 33, 255] {
+        assert_eq!(broken(&none_ready, |b| b[RUNNING] = byte), Some(Rule::R7(byte)));
+        assert_eq!(broken(&EMPTY, |b| b[RUNNING] = byte), Some(Rule::R7(byte)));
+    }
+    // any of several equals may run
+    for byte in 1..=32 {
+        assert_eq!(broken(&with_queues(), |b| b[RUNNING] = byte), None);
+    }
+}
+
+// The conversion
+
+/// The board as it was saved before byte 1 named who runs.
+fn old(b: &Board) -> Board {
+    let mut old = *b;
+    old[RUNNING] = 0;
+    old
+}
+
+/// A conversion that is refused for this rule and changes nothing.
+fn refuse_to_convert(b: &Board, rule: Rule) {
+    let mut after = *b;
+    assert_eq!(convert(&mut after), Answer::Refused(Refusal::BrokenRule(rule)));
+    assert_eq!(after, *b);
+}
+
+#[test]
+fn conversion_names_the_first_ready_task() {
+    for (board, running) in [(EMPTY, 0), (with_waiting_task(), 2), (with_queues(), 1), (with_tasks(&[0x35, 0x33, 0x33]), 2)] {
+        let mut b = old(&board);
+        assert_eq!(convert(&mut b), accepted(0, running, 0));
+        assert_eq!(b, board);
+        assert_eq!(check(&b), accepted(0, running, 0));
+        if running != 0 {
+            refuse_to_convert(&b, Rule::R1);
+        }
+    }
+}
+
+#[test]
+fn conversion_is_by_the_old_rules() {
+    let good = old(&with_queues());
+    let broken_by = |change: &dyn Fn(&mut Board)| {
+        let mut b = good;
+        change(&mut b);
+        b
+    };
+    for at in 1..=3 {
+        refuse_to_convert(&broken_by(&|b| b[at] = 1), Rule::R1);
+    }
+    for k in [1, 17, 32].map(task) {
+        refuse_to_convert(&broken_by(&|b| b[k.prio_at()] = 0xFF), Rule::R2(k));
+        refuse_to_convert(&broken_by(&|b| b[k.queue_slot()] = 0), Rule::R5(k));
+        refuse_to_convert(&broken_by(&|b| b[k.at()] |= Status::WAIT), Rule::R6(k));
+        let runs_and_is_due = |b: &mut Board| {
+            (1..k.number()).for_each(|other| b[task(other).at()] |= Status::IWAT);
+            b[k.at()] |= Status::MHBS;
+        };
+        refuse_to_convert(&broken_by(&runs_and_is_due), Rule::R7(k.byte()));
+    }
+    refuse_to_convert(&broken_by(&|b| b[0] = 2), Rule::R3);
+    refuse_to_convert(&broken_by(&|b| b[message(128).place_at()] = 128), Rule::R4(message(128)));
+    // an earlier equal that is due a message was no board then
+    let mut due = with_receiver();
+    claim_and_send(&mut due, 0x15, 1);
+    refuse_to_convert(&old(&due), Rule::R7(1));
 }

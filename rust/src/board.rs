@@ -8,14 +8,16 @@ use core::fmt;
 ///
 /// # The calls
 ///
-/// 'It' is the running task: the first in queue order that waits for nothing. [`install`](Board::install),
+/// 'It' is the running task, which byte 1 of the board names. [`install`](Board::install),
 /// [`post_interrupt`](Board::post_interrupt) and [`find`](Board::find) serve anyone. The others act for the running task and are
-/// refused with [`NobodyRuns`](Refusal::NobodyRuns) where there is none. All are refused with
+/// refused with [`NobodyRuns`](Refusal::NobodyRuns) where there is none (byte 1 is 0). All are refused with
 /// [`WrongLength`](Refusal::WrongLength) and [`RuleBroken`](Refusal::RuleBroken) where the bytes are no board. Each call names
 /// the refusals that it can give besides.
 ///
-/// After each accepted call [`Accepted`](crate::Accepted) tells the task that runs now, which may be another. If it was due a
-/// message (MHBS), it has been handed the first of its queue, told as delivered.
+/// After each accepted call [`Accepted`](crate::Accepted) tells the task that runs now. It is the same as before while it is
+/// there, waits for nothing, and no other such task has a smaller priority number: an equal does not push it aside. Else it is
+/// the first in queue order that waits for nothing. If it was due a message (MHBS), it has been handed the first of its queue,
+/// told as delivered.
 #[derive(Clone, PartialEq, Eq)]
 pub struct Board<B = [u8; BYTES]>(B);
 
@@ -93,6 +95,16 @@ impl<B: AsMut<[u8]>> Board<B> {
     /// [`WrongLength`](Refusal::WrongLength)
     pub fn make_fresh(&mut self) -> Answer {
         done(unpack(sys::fresh(self.0.as_mut())))
+    }
+
+    /// Converts an old board, saved when byte 1 was zero and the first ready task in queue order ran: byte 1 names that task from
+    /// now on, and nothing else changes. It tells who runs. Once converted, a board is no old one any more, unless nobody runs.
+    ///
+    /// # Errors
+    /// [`WrongLength`](Refusal::WrongLength), and [`RuleBroken`](Refusal::RuleBroken) by the rules of then: R1 was of bytes 1 to
+    /// 3, and R7 of that task, which must not be due a message.
+    pub fn convert(&mut self) -> Answer {
+        done(unpack(sys::convert(self.0.as_mut())))
     }
 
     /// Task `k` is there, behind those of equal priority. `stat` is TCBB, with DEBUG and MROB as one likes; `prio` is FIFO with

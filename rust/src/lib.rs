@@ -3,8 +3,9 @@
 //! The work is done by the library `station`, which is proved to do exactly what document 01 says: each call, on any bytes and
 //! any arguments, ends with an answer and touches nothing but the board. This crate gives its calls their types.
 //!
-//! A [`Board`] is owned, or lent from a longer buffer of any length without a copy ([`Board::lent`]). Names in capitals are the
-//! fields of the MITE-80 manual, 3.2 and 3.3.
+//! A [`Board`] is owned, or lent from a longer buffer of any length without a copy ([`Board::lent`]). One that was saved when
+//! byte 1 was always zero goes through [`Board::convert`] first. Names in capitals are the fields of the MITE-80 manual, 3.2 and
+//! 3.3.
 //!
 //! To use it, name this folder as a path dependency and build the library first: `rt staticlib station` at the top of the
 //! repository writes it for x86-64, and `tests/libraries` compiles it for another processor. If it lies elsewhere,

@@ -3,10 +3,12 @@ use crate::{MsgNo, TaskNo, MESSAGES, TASKS};
 use core::fmt;
 
 /// A rule that a board breaks, with the task or message that breaks it. If several are broken, it is the lowest rule, and of its
-/// tasks or messages the smallest. R6 and R7 are judged on boards that keep the others.
+/// tasks or messages the smallest. R6 is judged on boards that keep R1 to R5, and R7 on boards that keep all others.
+///
+/// [`Board::convert`](crate::Board::convert) judges an old board, whose R1 and R7 were others.
 #[derive(Clone, Copy, Debug, PartialEq, Eq, PartialOrd, Ord, Hash)]
 pub enum Rule {
-    /// bytes 1 to 3 are not zero
+    /// bytes 2 and 3 are not zero; of an old board, bytes 1 to 3
     R1,
     /// the record of the task is neither zero nor that of a task (STAT and PRIO)
     R2(TaskNo),
@@ -18,12 +20,14 @@ pub enum Rule {
     R5(TaskNo),
     /// WAIT, IWAT, INTQ and MHBS of the task do not go together, or not with its queue
     R6(TaskNo),
-    /// the running task is still due a message (MHBS)
-    R7(TaskNo),
+    /// byte 1, told as it is, is not 0 where no task is ready, or names no ready task of the smallest ready priority number with
+    /// MHBS 0; of an old board, the first ready task, told by its number, is due a message (MHBS)
+    R7(u8),
 }
 
 impl Rule {
-    /// The rule of that number, 1 to 7, with that record, 0 with R1 and R3; none where there can be no such record.
+    /// The rule of that number, 1 to 7, with that record, 0 with R1 and R3, any byte with R7; none where there can be no such
+    /// record.
     pub const fn from_numbers(rule: u8, record: u16) -> Option<Rule> {
         Some(match (rule, record) {
             (1, 0) => Rule::R1,
@@ -32,7 +36,7 @@ impl Rule {
             (4, 1..=MESSAGES) => Rule::R4(MsgNo(record)),
             (5, 1..=TASKS) => Rule::R5(TaskNo(record)),
             (6, 1..=TASKS) => Rule::R6(TaskNo(record)),
-            (7, 1..=TASKS) => Rule::R7(TaskNo(record)),
+            (7, 0..=255) => Rule::R7(record as u8),
             _ => return None,
         })
     }
@@ -50,12 +54,13 @@ impl Rule {
         }
     }
 
-    /// The number of the task or message, 0 with R1 and R3.
+    /// The number of the task or message, 0 with R1 and R3, byte 1 with R7.
     pub const fn record(self) -> u16 {
         match self {
             Rule::R1 | Rule::R3 => 0,
             Rule::R4(m) => m.0,
-            Rule::R2(k) | Rule::R5(k) | Rule::R6(k) | Rule::R7(k) => k.0,
+            Rule::R2(k) | Rule::R5(k) | Rule::R6(k) => k.0,
+            Rule::R7(byte) => byte as u16,
         }
     }
 }
@@ -64,7 +69,7 @@ impl fmt::Display for Rule {
     fn fmt(&self, f: &mut fmt::Formatter<'_>) -> fmt::Result {
         write!(f, "rule {}: ", self.number())?;
         match self {
-            Rule::R1 => write!(f, "bytes 1 to 3 are not zero"),
+            Rule::R1 => write!(f, "bytes 2 and 3 are not zero (of an old board, 1 to 3)"),
             Rule::R2(k) => write!(f, "the record of task {} is neither zero nor that of a task (STAT and PRIO)", k.0),
             Rule::R3 => write!(f, "the task queue does not visit exactly the present tasks, in order of priority"),
             Rule::R4(m) => write!(f, "the record of message {} does not go with its place", m.0),
@@ -72,7 +77,10 @@ impl fmt::Display for Rule {
                 write!(f, "the queue of task {} does not visit exactly the messages placed there, in order of priority", k.0)
             }
             Rule::R6(k) => write!(f, "WAIT, IWAT, INTQ and MHBS of task {} do not go together, or not with its queue", k.0),
-            Rule::R7(k) => write!(f, "the running task {} is still due a message (MHBS)", k.0),
+            Rule::R7(byte) => {
+                write!(f, "byte 1 is {byte}, and names no task that may run ")?;
+                write!(f, "(of an old board, the first ready task {byte} is due a message)")
+            }
         }
     }
 }

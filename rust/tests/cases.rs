@@ -1,8 +1,8 @@
 //! The cases of the repository's `tests/cases` through the methods: what C and the proved program answer, this crate answers.
 //!
 //! A case is the length as a word, a call of nine bytes (kind, three words, STAT, PRIO; kind 0 checks the board, kind 254 makes
-//! it fresh) and the board. Its answer is a line: refusal, value, running, delivered, rule, record, and each byte that has
-//! changed.
+//! it fresh, kind 253 converts an old one) and the board. Its answer is a line: refusal, value, running, delivered, rule, record,
+//! and each byte that has changed.
 use station::{Answer, Board, MsgNo, Prio, Refusal, Status, TaskNo};
 use std::{fmt::Write, path::Path, process::Command};
 
@@ -65,6 +65,7 @@ fn answer_to(call: &[u8], board: &mut Board<&mut [u8]>) -> Option<String> {
         17 => told(board.receive_and_wait()),
         18 => told(board.cancel_message(m, r)),
         19 => told(board.wait_for_interrupt()),
+        253 => told(board.convert()),
         254 => told(board.make_fresh()),
         _ => return None,
     })
@@ -114,6 +115,11 @@ fn full_boards() {
 }
 
 #[test]
+fn converted_boards() {
+    compare("converted_boards");
+}
+
+#[test]
 fn cases_of_an_independent_model() {
-    ["outside_check", "outside_history", "outside_damaged"].into_iter().for_each(compare);
+    ["outside_check", "outside_history", "outside_damaged", "outside_convert"].into_iter().for_each(compare);
 }

@@ -21,11 +21,12 @@ fn install(k: u16, stat: Status, prio: Prio) -> impl Fn(&mut Board) -> station::
 #[test]
 fn a_board_that_is_none() {
     let mut broken = tasks(&[25]).into_bytes();
-    broken[1] = 1;
+    broken[2] = 1;
     refused(&Board::lent(broken), RuleBroken(Rule::R1), |b| b.claim());
     refused(&Board::lent(broken), RuleBroken(Rule::R1), |b| b.check());
     let mut short = [0; 1475];
     assert_eq!(Board::lent(&mut short[..]).make_fresh(), Err(WrongLength));
+    assert_eq!(Board::lent(&mut short[..]).convert(), Err(WrongLength));
 }
 
 #[test]
@@ -152,7 +153,31 @@ fn each_rule_with_its_record() {
     assert_eq!(broken_by(task_2 + 4, 0), Some(RuleBroken(Rule::R5(TaskNo(2)))));
     assert_eq!(broken_by(message_2 + 2, 1), Some(RuleBroken(Rule::R5(TaskNo(2))))); // it shares a tail with task 1
     assert_eq!(broken_by(task_2, waits), Some(RuleBroken(Rule::R6(TaskNo(2)))));
-    assert_eq!(broken_by(4, due), Some(RuleBroken(Rule::R7(LONE))));
+    assert_eq!(broken_by(4, due), Some(RuleBroken(Rule::R7(1))));
+    // byte 1: nobody, a ready task of a larger number, an absent one, and no task
+    for byte in [0, 2, 3, 32, 33, 255] {
+        assert_eq!(broken_by(1, byte), Some(RuleBroken(Rule::R7(byte))));
+    }
+}
+
+#[test]
+fn an_old_board_is_refused_by_its_own_rules() {
+    let board = tasks(&[25, 30]);
+    refused(&board, RuleBroken(Rule::R1), |b| b.convert()); // byte 1 names who runs
+    let mut old = board.into_bytes();
+    old[1] = 0;
+    refused(&Board::lent(old), RuleBroken(Rule::R7(0)), |b| b.check());
+    old[0] = 2;
+    refused(&Board::lent(old), RuleBroken(Rule::R3), |b| b.convert());
+
+    // of two equals the earlier is due a message, and the later runs
+    let mut board = tasks(&[25, 25]);
+    board.receive_and_wait().unwrap();
+    let m = written(&mut board, Prio::fifo(9));
+    assert_eq!(board.send(m, LONE).unwrap().running, Some(TaskNo(2)));
+    let mut old = board.into_bytes();
+    old[1] = 0;
+    refused(&Board::lent(old), RuleBroken(Rule::R7(1)), |b| b.convert());
 }
 
 #[test]
@@ -170,8 +195,7 @@ fn numbers_and_words() {
 
 #[test]
 fn numbers_and_words_of_rules() {
-    for (rule, last) in [(1, 0), (2, 32), (3, 0), (4, 128), (5, 32), (6, 32), (7, 32)] {
-        let records = if last == 0 { 0..=0 } else { 1..=last };
+    for (rule, records) in [(1, 0..=0), (2, 1..=32), (3, 0..=0), (4, 1..=128), (5, 1..=32), (6, 1..=32), (7, 0..=255)] {
         for record in 0..=300 {
             let told = Rule::from_numbers(rule, record);
             assert_eq!(

@@ -1,4 +1,4 @@
-//! The worked boards of document 01, and its slips that a caller can see.
+//! The worked boards of document 01, its slips that a caller can see, and who runs.
 mod common;
 use common::{prio_of, status_of, tasks, written};
 use station::{Accepted, Board, MsgNo, Prio, Refusal, Status, TaskNo};
@@ -6,12 +6,12 @@ use station::{Accepted, Board, MsgNo, Prio, Refusal, Status, TaskNo};
 const LONE: TaskNo = TaskNo(1);
 
 #[test]
-fn a_fresh_install_writes_byte_0_and_the_record() {
+fn a_fresh_install_writes_bytes_0_and_1_and_the_record() {
     let mut board = Board::fresh();
     let told = board.install(TaskNo(3), Status::TCBB | Status::MROB, Prio(0x33), 0x1234, 0x4154);
     assert_eq!(told, Ok(Accepted { value: (), running: Some(TaskNo(3)), delivered: None }));
     let mut want = [0; station::BYTES];
-    want[0] = 3;
+    want[..2].copy_from_slice(&[3, 3]);
     want[24..34].copy_from_slice(&[0x05, 0x33, 0, 0, 0, 0, 0x34, 0x12, 0x54, 0x41]);
     assert_eq!(board.as_bytes(), want);
     assert_eq!(board.find(u16::from_le_bytes(*b"TA")).unwrap().value, Some(TaskNo(3)));
@@ -144,4 +144,45 @@ fn forward_leaves_the_receiver_and_the_sender() {
     let told = board.return_message(m).unwrap(); // to itself
     assert_eq!((told.running, told.delivered), (Some(first), None));
     assert_eq!(board.receive().unwrap().value, Some(m));
+}
+
+#[test]
+fn an_equal_does_not_push_the_running_task_aside() {
+    let mut board = tasks(&[25, 25]);
+    let [earlier, later] = [TaskNo(1), TaskNo(2)];
+    assert_eq!(board.wait_for_interrupt().unwrap().running, Some(later));
+    assert_eq!(board.post_interrupt(earlier).unwrap().running, Some(later));
+    assert_eq!(board.as_bytes()[1], 2);
+    assert_eq!(board.check().unwrap().running, Some(later));
+    let told = board.install(TaskNo(3), Status::TCBB, Prio::fifo(24), 0, 0).unwrap();
+    assert_eq!(told.running, Some(TaskNo(3))); // a smaller number does
+    assert_eq!(board.cancel_task(TaskNo(3)).unwrap().running, Some(earlier)); // the first in queue order
+    assert_eq!(board.wait_for_interrupt().unwrap().running, Some(later));
+    assert_eq!(board.cancel_task(later).unwrap().running, None); // nobody is left but who waits
+    assert_eq!(board.as_bytes()[1], 0);
+}
+
+#[test]
+fn an_earlier_equal_may_be_due_a_message() {
+    let mut board = tasks(&[25, 25]);
+    let [earlier, later] = [TaskNo(1), TaskNo(2)];
+    board.receive_and_wait().unwrap();
+    let m = written(&mut board, Prio::fifo(9));
+    assert_eq!(board.send(m, earlier), Ok(Accepted { value: (), running: Some(later), delivered: None }));
+    assert!(status_of(&board, earlier).has(Status::MHBS));
+    assert_eq!(board.check().unwrap().running, Some(later));
+    let told = board.wait_for_interrupt();
+    assert_eq!(told, Ok(Accepted { value: (), running: Some(earlier), delivered: Some(m) }));
+}
+
+#[test]
+fn an_old_board_is_converted() {
+    for board in [Board::fresh(), tasks(&[25]), tasks(&[25, 20, 20])] {
+        let told = board.check().unwrap();
+        let mut bytes = board.clone().into_bytes();
+        bytes[1] = 0;
+        let mut old = Board::lent(bytes);
+        assert_eq!(old.convert(), Ok(told));
+        assert_eq!(old, board);
+    }
 }

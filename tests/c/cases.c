@@ -1,7 +1,7 @@
 /* The cases of tests/cases through include/station.h and the static library, every call by its own wrapper, with guard bytes
  * around the board. It reads and writes what the program run_cases does: a case is the length as a word, a call of nine bytes
- * (kind, three words, STAT, PRIO; kind 0 checks the board, kind 254 makes it fresh) and the board; an answer is a line: refusal,
- * value, running, delivered, rule, record, and each byte that has changed. */
+ * (kind, three words, STAT, PRIO; kind 0 checks the board, kind 254 makes it fresh, kind 253 converts an old one) and the board;
+ * an answer is a line: refusal, value, running, delivered, rule, record, and each byte that has changed. */
 #include <stdio.h>
 #include <string.h>
 
@@ -41,6 +41,7 @@ static station_answer answer_to(const uint8_t *head, uint8_t *b, size_t n)
     case 17: return station_receive_and_wait(b, n);
     case 18: return station_cancel_message(b, n, x, y);
     case 19: return station_wait_for_interrupt(b, n);
+    case 253: return station_convert_old(b, n);
     case 254: return station_make_fresh(b, n);
     default: return station_ask(b, n, head[2], x, y, name, stat, prio);
     }

@@ -1,6 +1,7 @@
 /* What include/station.h says of its arguments and answers. A board of length 0 may have any pointer, NULL too, and every
  * function refuses it. A priority above 127 is as 127: install refuses it, and a message goes with its sender's own or not at
- * all. A broken rule comes with its record, and every rule has words of its own. */
+ * all. A broken rule comes with its record, and every rule has words of its own. Byte 1 names the running task, and an old board
+ * is converted once. */
 #include <stdio.h>
 #include <string.h>
 
@@ -19,6 +20,7 @@ static void no_bytes(void)
 {
     hold(station_make_fresh(NULL, 0).refusal == STATION_WRONG_LENGTH, "make_fresh takes a board of no bytes");
     hold(station_look(NULL, 0).refusal == STATION_WRONG_LENGTH, "look takes a board of no bytes");
+    hold(station_convert_old(NULL, 0).refusal == STATION_WRONG_LENGTH, "convert_old takes a board of no bytes");
     for (unsigned kind = 0; kind <= UINT8_MAX; kind++) {
         uint8_t refusal = station_ask(NULL, 0, (uint8_t)kind, 1, 1, 1, STATION_TCBB, 3).refusal;
         hold(refusal == (kind >= 1 && kind <= 19 ? STATION_WRONG_LENGTH : STATION_NO_CALL), "a call takes a board of no bytes");
@@ -74,9 +76,33 @@ static void broken_rules(void)
     board[4 + 10 * (STATION_TASKS - 1)] = STATION_WAIT;
     hold(is(station_look(board, sizeof board), broken(2, STATION_TASKS)), "the check does not name the task");
     hold(is(station_claim(board, sizeof board), broken(2, STATION_TASKS)), "a call does not name the task");
+    hold(is(station_convert_old(board, sizeof board), broken(2, STATION_TASKS)), "the conversion does not name the task");
     board[3] = 1;
     hold(is(station_look(board, sizeof board), broken(1, 0)), "the check does not name the lowest rule");
     hold(station_make_fresh(board, sizeof board).rule == 0, "making a board fresh names a rule");
+}
+
+/* byte 1 names the running task; any other byte is told as it is */
+static void who_runs(void)
+{
+    memset(board, 0, sizeof board);
+    for (uint16_t k = 1; k <= 2; k++) station_install(board, sizeof board, k, STATION_TCBB, station_fifo(5), 0, 0);
+    hold(station_wait_for_interrupt(board, sizeof board).running == 2 && board[1] == 2, "who runs is not told in byte 1");
+    hold(station_post_interrupt(board, sizeof board, 1).running == 2, "an equal pushes the running task aside");
+    for (unsigned byte = 3; byte <= UINT8_MAX; byte++) {
+        board[1] = (uint8_t)byte;
+        hold(is(station_look(board, sizeof board), broken(7, (uint8_t)byte)), "the check does not name a wrong byte 1");
+    }
+}
+
+static void old_board(void)
+{
+    station_answer first = {STATION_ACCEPTED, 0, 1, 0, 0, 0};
+    board[1] = 0; /* the two tasks of before, ready both, as they were saved once */
+    hold(is(station_look(board, sizeof board), broken(7, 0)), "an old board passes");
+    hold(is(station_convert_old(board, sizeof board), first) && board[1] == 1, "an old board is not converted");
+    hold(is(station_look(board, sizeof board), first), "a converted board does not pass");
+    hold(is(station_convert_old(board, sizeof board), broken(1, 0)), "a board is converted twice");
 }
 
 static void words_of_rules(void)
@@ -94,6 +120,8 @@ int main(void)
     priority_above_127();
     packed_answers();
     broken_rules();
+    who_runs();
+    old_board();
     words_of_rules();
     if (!faults) puts("station.h: what it says of its arguments and answers holds");
     return faults != 0;

@@ -2,16 +2,16 @@
 """Makes the damaged boards of the gate: every rule R1 to R7 broken alone in each way it can be, at the first, a middle and the
 last record, then boards that break several.
 
-Written from documents 01 and 02 (Ask 1) alone, with its own reading of the rules, so that the proved check is compared with
-something else.
+Written from documents 01 and 02 (Asks 1 and 3) alone, with its own reading of the rules, so that the proved check is compared
+with something else.
 usage: damaged_boards.py CASES ANSWERS   (a case: length word, call of 9 bytes, board; an answer: a line of refusal, value,
 running, delivered, rule, record and each byte that changed)"""
 import random
 import sys
 
-from layout import MESSAGES, TASKS, message, place, task
+from layout import CHECK, FRESH, MESSAGES, RUNNING, TASKS, message, place, task
 
-CHECK, CALLS, FRESH, NO_CALLS = 0, range(1, 20), 254, (20, 21, 22, 64, 128, 253, 255)
+CALLS, NO_CALLS = range(1, 20), (20, 21, 22, 64, 128, 252, 255)
 WAIT, IWAT, BIT5, INTQ, DEBUG, MROB, MHBS, TCBB = 128, 64, 32, 16, 8, 4, 2, 1
 
 
@@ -35,18 +35,24 @@ def walk(b, x, link, members, number):
     return seen if set(seen) == members else None
 
 
-def broken(b):
-    """What the board breaks, as (rule, record), record 0 for R1 and R3; R6 and R7 are judged where R1 to R5 hold."""
+def present(b):
+    return {k for k in range(1, TASKS + 1) if any(b[task(k):task(k) + 10])}
+
+
+def in_order(b):
+    """The task queue, None where it is none."""
+    return walk(b, b[0], lambda k: task(k) + 2, present(b), lambda k: b[task(k) + 1] >> 1)
+
+
+def broken_records(b):
+    """What the board breaks of R2 to R6, as (rule, record), record 0 for R3; R6 is judged where R2 to R5 hold."""
     out = set()
     stat = {k: b[task(k)] for k in range(1, TASKS + 1)}
-    there = {k for k in stat if any(b[task(k):task(k) + 10])}
-    if any(b[1:4]):
-        out.add((1, 0))
+    there = present(b)
     for k in there:
         if not stat[k] & TCBB or stat[k] & BIT5 or b[task(k) + 1] % 2 == 0 or not 3 <= b[task(k) + 1] <= 0xFD:
             out.add((2, k))
-    order = walk(b, b[0], lambda k: task(k) + 2, there, lambda k: b[task(k) + 1] >> 1)
-    if order is None:
+    if in_order(b) is None:
         out.add((3, 0))
     placed = {k: set() for k in stat}
     for m in range(1, MESSAGES + 1):
@@ -75,19 +81,31 @@ def broken(b):
         waits_badly = s & WAIT and (s & (IWAT | MHBS) or not empty)
         if waits_badly or (s & IWAT and s & (INTQ | MHBS)) or (s & MHBS and empty):
             out.add((6, k))
-    first = running(b, order)
-    if first and stat[first] & MHBS:
-        out.add((7, first))
+    return out
+
+
+def ready(b):
+    """The ready tasks in queue order, of a board that keeps R1 to R6."""
+    return [k for k in in_order(b) if not b[task(k)] & (WAIT | IWAT)]
+
+
+def may_run(b):
+    """What byte 1 may be: a ready task of the smallest ready number that is due no message; 0 exactly if none is ready."""
+    number = {k: b[task(k) + 1] >> 1 for k in ready(b)}
+    return {k for k in number if number[k] == min(number.values()) and not b[task(k)] & MHBS} if number else {0}
+
+
+def broken(b):
+    """What the board breaks, as (rule, record), record 0 for R1 and R3, byte 1 for R7, which is judged where R1 to R6 hold."""
+    out = broken_records(b) | ({(1, 0)} if any(b[2:4]) else set())
+    if not out and b[RUNNING] not in may_run(b):
+        out.add((7, b[RUNNING]))
     return out
 
 
 def named(b):
     """The rule that is told with 2, and the record: the lowest, then the smallest; zeros where the board breaks none."""
     return min(broken(b), default=(0, 0))
-
-
-def running(b, order):
-    return next((k for k in order if not b[task(k)] & (WAIT | IWAT)), 0)
 
 
 def queue(b, k, numbers, prios):
@@ -112,7 +130,7 @@ def sound(t=same, m=same):
     b = bytearray(1476)
     order = [(5, TCBB | DEBUG, 3), (2, TCBB | WAIT | INTQ, 21), (7, TCBB | IWAT | MROB, 21), (32, TCBB | MHBS, 0x33),
              (9, TCBB | INTQ, 0xFD)]
-    b[0] = t(5)
+    b[0] = b[RUNNING] = t(5)
     for i, (k, s, p) in enumerate(order):
         at = task(t(k))
         b[at], b[at + 1] = s, p
@@ -132,7 +150,7 @@ def sound(t=same, m=same):
 def full():
     """All 32 tasks in number order, all 128 messages queued, four at each."""
     b = bytearray(1476)
-    b[0] = 1
+    b[0] = b[RUNNING] = 1
     for k in range(1, 33):
         b[task(k)], b[task(k) + 1] = TCBB, 1 + 2 * k
         put(b, task(k) + 2, k + 1 if k < 32 else 0)
@@ -143,8 +161,17 @@ def full():
 def one_queue():
     """A lone task with all 128 messages in its queue: the longest legal walk."""
     b = bytearray(1476)
-    b[0], b[task(32)], b[task(32) + 1] = 32, TCBB, 3
+    b[0], b[RUNNING], b[task(32)], b[task(32) + 1] = 32, 32, TCBB, 3
     queue(b, 32, list(range(128, 0, -1)), [1] * 128)
+    return b
+
+
+def equals(running, due=(), asleep=()):
+    """The full board with tasks of one priority, of which one runs, some are due a message and some wait for an interrupt."""
+    b = full()
+    b[RUNNING] = running
+    for k in range(1, 33):
+        b[task(k)], b[task(k) + 1] = TCBB | (MHBS if k in due else 0) | (IWAT if k in asleep else 0), 0x33
     return b
 
 
@@ -160,8 +187,8 @@ def to_word(i, w):
 
 
 def damages_of_no_record():
-    """What breaks R1 or R3 of the board sound() alone, as (rule, 0, [(offset, byte) ..])."""
-    for i in (1, 2, 3):
+    """What breaks R1, R3, or R7 by a byte 1 that is no task, of the board sound() alone: (rule, record, [(offset, byte) ..])."""
+    for i in (2, 3):
         for v in (1, 0x80, 0xFF):
             yield 1, 0, [(i, v)]
     for v in (0, 1, 2, 33, 255):                            # byte 0: none, absent, past the first, beyond the board
@@ -172,11 +199,13 @@ def damages_of_no_record():
         yield 3, 0, to_word(task(9) + 2, v)
     yield 3, 0, [(task(5) + 1, 23)]                         # numbers fall behind the first
     yield 3, 0, [(task(9) + 1, 0x31)]                       # .. at the last link
+    for v in (0, 33, 37, 64, 69, 96, 128, 133, 255):        # byte 1: nobody, or beyond the tasks
+        yield 7, v, [(RUNNING, v)]
 
 
 def damages(t=same, m=same):
     """What breaks each other rule of the board sound(t, m), as (the lowest rule broken, its record, [(offset, byte) ..])."""
-    absent, runner, waiter, parked, idle = (t(k) for k in (20, 5, 2, 7, 9))
+    absent, runner, waiter, parked, due, idle = (t(k) for k in (20, 5, 2, 7, 32, 9))
     free, held, first, last, kept = (m(n) for n in (50, 10, 3, 128, 127))
     for i in range(10):                                     # an absent record that isn't zero
         yield 2, absent, [(task(absent) + i, 2 if i == 0 else 1)]
@@ -216,6 +245,11 @@ def damages(t=same, m=same):
     yield 6, parked, [(task(parked), TCBB | IWAT | MHBS)]
     yield 6, idle, [(task(idle), TCBB | MHBS)]              # MHBS with an empty queue
     yield 7, runner, [(task(runner), TCBB | MHBS)]
+    for k in (absent, waiter, parked, due, idle):           # byte 1: absent, waits, or of a larger number
+        yield 7, k, [(RUNNING, k)]
+    sleeping = [(task(k), TCBB | IWAT) for k in (runner, due, idle)]    # nobody is ready
+    for k in (absent, runner, waiter):
+        yield 7, k, [(RUNNING, k), *sleeping]
 
 
 def spots(rule):
@@ -243,8 +277,27 @@ def of_the_full_board():
         yield changed(full(), cut), (5, min(k, other))
         yield changed(full(), [(task(k), TCBB | WAIT), (task(other), TCBB | MHBS | IWAT)]), (6, min(k, other))
         waits = [(task(j), TCBB | IWAT) for j in range(1, k)]
-        yield changed(full(), waits + [(task(k), TCBB | MHBS)]), (7, k)
-        yield changed(full(), [(task(1), TCBB | MHBS), (task(k), TCBB | WAIT)]), (6, k)  # R7 too where k isn't 1
+        yield changed(full(), waits + [(RUNNING, k)]), (0, 0)
+        yield changed(full(), waits + [(RUNNING, k), (task(k), TCBB | MHBS)]), (7, k)
+        yield changed(full(), waits), ((7, 1) if k > 1 else (0, 0))
+        yield changed(full(), [(task(1), TCBB | MHBS), (task(k), TCBB | WAIT)]), (6, k)  # R7 would be broken too
+        yield equals(k, {other}), (0, 0)                    # an equal may be due a message, earlier or later
+        yield equals(k, {k}), (7, k)
+        yield equals(k, {other}, {k}), (7, k)               # who runs waits
+
+
+def of_equals():
+    """Any of 32 equals may run, whoever else is due a message; nobody may where all wait."""
+    everyone = set(range(1, 33))
+    for k in everyone:
+        yield equals(k), (0, 0)
+        yield equals(k, everyone - {k}), (0, 0)
+        yield equals(k, everyone), (7, k)
+        yield equals(k, asleep=everyone), (7, k)
+        yield equals(k, asleep=everyone - {k}), (0, 0)
+    for byte in (0, 33, 64, 128, 255):
+        yield equals(byte), (7, byte)
+        yield equals(byte, asleep=everyone), ((7, byte) if byte else (0, 0))
 
 
 def cases():
@@ -257,6 +310,9 @@ def cases():
         yield changed(sound(), changes), (rule, record)
     yield from each_at_its_spots()
     yield from of_the_full_board()
+    yield from of_equals()
+    for byte in (1, 32, 33, 255):
+        yield changed(bytearray(1476), [(RUNNING, byte)]), (7, byte)    # there is no task
     long_walk = one_queue()                                 # 129 links: the last one turns back to the first
     put(long_walk, message(1) + 2, 128)
     yield long_walk, (5, 32)
@@ -289,10 +345,9 @@ def main(cases_file, answers_file):
             if found:
                 emit(b, CHECK, "2 0 0 0 %d %d" % named(b))
             else:
-                there = {k for k in range(1, TASKS + 1) if b[task(k)]}
-                order = walk(b, b[0], lambda k: task(k) + 2, there, lambda k: b[task(k) + 1] >> 1)
-                emit(b, CHECK, "0 0 %d 0 0 0" % running(b, order))
-        for rule, record, changes in {way[0]: way for way in [*damages_of_no_record(), *damages()]}.values():
+                emit(b, CHECK, "0 0 %d 0 0 0" % b[RUNNING])
+        last_of_each = {way[0]: way for way in [*damages_of_no_record(), *damages()]}.values()
+        for rule, record, changes in [*last_of_each, (7, 0, [(RUNNING, 0)]), (7, 255, [(RUNNING, 255)])]:
             for kind in CALLS:                              # every call says what the check does
                 emit(changed(sound(), changes), kind, "2 0 0 0 %d %d" % (rule, record))
         for n in (0, 1, 4, 1475, 1477, 2854, 4000):         # wrong lengths
@@ -304,7 +359,8 @@ def main(cases_file, answers_file):
         for kind in NO_CALLS:                               # no call, before the board is looked at
             for b in (sound(), mended, bytes(1475)):
                 emit(b, kind, "255 0 0 0 0 0")
-    assert alone >= {(1, 0), (3, 0)} | {(rule, spot) for rule in (2, 4, 5, 6, 7) for spot in spots(rule)}
+    assert alone >= {(1, 0), (3, 0), (7, 0), (7, 255)} | {(rule, spot) for rule in (2, 4, 5, 6, 7) for spot in spots(rule)}
 
 
-main(*sys.argv[1:])
+if __name__ == "__main__":
+    main(*sys.argv[1:])

@@ -1,24 +1,25 @@
 #!/usr/bin/env python3
 """Makes claims on full and nearly full boards: none free, each message by itself the only free one, and whatever of a group of
 four can be free, in the first group, one in the middle and the last. What is not free is held by one task, held by all in turn,
-queued at all in turn, or held and queued by turns. Written from documents 01 and 02 (Ask 2) alone.
+queued at all in turn, or held and queued by turns; each way another of the tasks runs, which are equals. Written from documents
+01 and 02 (Asks 2 and 3) alone.
 usage: full_boards.py CASES ANSWERS   (a case: length word, call of 9 bytes, board; an answer: a line of refusal, value,
 running, delivered, rule, record and each byte that changed)"""
 import struct
 import sys
 
-from layout import MESSAGES, TASKS, message, place, task
+from layout import MESSAGES, RUNNING, TASKS, message, place, task
 
 CLAIM = 5
-# whether message m is queued, and the task that has it
-WAYS = [lambda m: (False, 1), lambda m: (False, 1 + m % TASKS), lambda m: (True, 1 + m % TASKS),
-        lambda m: (m % 3 > 0, 1 + m // 7 % TASKS)]
+# the running task, and whether message m is queued, and the task that has it
+WAYS = [(1, lambda m: (False, 1)), (32, lambda m: (False, 1 + m % TASKS)), (16, lambda m: (True, 1 + m % TASKS)),
+        (2, lambda m: (m % 3 > 0, 1 + m // 7 % TASKS))]
 
 
-def board(way, free):
+def board(running, way, free):
     """32 ready tasks in the order of their numbers; messages of one priority, in each queue in the order of their numbers."""
     b = bytearray(1476)
-    b[0] = 1
+    b[0], b[RUNNING] = 1, running
     ends = {}
     for k in range(1, TASKS + 1):
         b[task(k):task(k) + 3] = 0x01, 0x33, k + 1 if k < TASKS else 0
@@ -44,11 +45,11 @@ def free_sets():
 def main(cases_file, answers_file):
     with open(cases_file, "wb") as out, open(answers_file, "w") as said:
         for free in free_sets():
-            for way in WAYS:
-                b = board(way, free)
+            for c, way in WAYS:
+                b = board(c, way, free)
                 out.write(struct.pack("<HBHHHBB", len(b), CLAIM, 0, 0, 0, 0, 0) + b)
                 lowest = min(free, default=0)
-                said.write(f"0 {lowest} 1 0 0 0 {place(lowest)}=1\n" if free else "11 0 0 0 0 0\n")
+                said.write(f"0 {lowest} {c} 0 0 0 {place(lowest)}={c}\n" if free else "11 0 0 0 0 0\n")
 
 
 main(*sys.argv[1:])

@@ -1,5 +1,8 @@
-"""Where the records of a board lie, for the scripts beside this one: document 01, 'What the board holds'."""
+"""Where the records of a board lie, for the scripts beside this one: document 01, 'What the board holds'; and the kinds of case
+that are no call."""
 TASKS, MESSAGES = 32, 128
+RUNNING = 1  # the byte that names the running task (document 02, Ask 3)
+CHECK, CONVERT, FRESH = 0, 253, 254
 
 
 def task(k):

@@ -2,9 +2,8 @@
 //! writes. Each hands back the packed answer. On a board that passes refusal 15 cannot be.
 use super::check::Found;
 use super::{accepted, message, pieces, place, task, word};
-use model::board::{Board, Status, MESSAGES, MESSAGE_LEN, PLACES_AT, SENDERS_PRIORITY, TASKS, TASK_LEN};
+use model::board::{Board, Status, MESSAGES, MESSAGE_LEN, PLACES_AT, RUNNING, SENDERS_PRIORITY, TASKS, TASK_LEN, TASK_QUEUE};
 
-const TASK_QUEUE: usize = 0;
 /// One in each of eight bytes.
 const EACH: u64 = 0x0101_0101_0101_0101;
 
@@ -27,7 +26,7 @@ pub fn call(b: &mut Board, found: &Found, kind: u8, words: [u16; 3], stat: u8, p
         7 => release(b, c, x),
         8..=15 => send(b, found, kind, x, y),
         16 => accepted(take_first(b, c), c, 0),
-        17 => wait(b, c),
+        17 => wait(b, c, 0),
         18 => cancel_message(b, c, x, y),
         _ => wait_for_interrupt(b, c),
     }
@@ -55,27 +54,60 @@ fn held(b: &Board, c: usize, m: usize) -> Result<usize, u64> {
     Ok(m)
 }
 
-/// Who runs now, and its message if it is due one.
-fn dispatch(b: &mut Board) -> u64 {
-    let mut k = word(b, TASK_QUEUE);
+/// The first task of the task queue: a byte, since the next one says who runs.
+#[inline(always)]
+fn first_task(b: &Board) -> usize {
+    b[TASK_QUEUE].into()
+}
+
+/// Whether task k, which is ready, takes c's turn. While c is ready, nobody else can: no other had a smaller number before.
+#[inline(always)]
+fn outranks(b: &Board, k: usize, c: usize) -> bool {
+    c == 0 || b[task(k) + 1] < b[task(c) + 1]
+}
+
+/// Task k runs now and is due nothing.
+#[inline(always)]
+fn runs(b: &mut Board, k: usize) -> u64 {
+    b[RUNNING] = k as u8;
+    accepted(0, k, 0)
+}
+
+/// Task k runs now, and its message is handed over if it is due one.
+fn dispatch(b: &mut Board, k: usize) -> u64 {
+    let s = b[task(k)];
+    if s & Status::MHBS == 0 {
+        return runs(b, k);
+    }
+    b[task(k)] = s & !Status::MHBS;
+    b[RUNNING] = k as u8;
+    let m = take_first(b, k);
+    accepted(0, k, m)
+}
+
+/// The first ready task runs, if there is one: who ran is ready no more.
+fn dispatch_first(b: &mut Board) -> u64 {
+    let mut k = first_task(b);
     while k != 0 {
-        let s = b[task(k)];
-        if s & (Status::WAIT | Status::IWAT) == 0 {
-            if s & Status::MHBS == 0 {
-                return accepted(0, k, 0);
-            }
-            b[task(k)] = s & !Status::MHBS;
-            let m = take_first(b, k);
-            return accepted(0, k, m);
+        if b[task(k)] & (Status::WAIT | Status::IWAT) == 0 {
+            return dispatch(b, k);
         }
         k = word(b, task(k) + 2);
     }
-    accepted(0, 0, 0)
+    runs(b, 0)
 }
 
-fn wait(b: &mut Board, c: usize) -> u64 {
-    b[task(c)] |= if word(b, task(c) + 4) == 0 { Status::WAIT } else { Status::MHBS };
-    dispatch(b)
+/// The wait of c, behind a call that has made `woken` ready, 0 for none.
+fn wait(b: &mut Board, c: usize, woken: usize) -> u64 {
+    let is_empty = word(b, task(c) + 4) == 0;
+    b[task(c)] |= if is_empty { Status::WAIT } else { Status::MHBS };
+    if woken != 0 && outranks(b, woken, c) {
+        return dispatch(b, woken);
+    }
+    if is_empty {
+        return dispatch_first(b);
+    }
+    dispatch(b, c)
 }
 
 fn wait_for_interrupt(b: &mut Board, c: usize) -> u64 {
@@ -85,7 +117,7 @@ fn wait_for_interrupt(b: &mut Board, c: usize) -> u64 {
         return accepted(0, c, 0);
     }
     b[task(c)] = s | Status::IWAT;
-    dispatch(b)
+    dispatch_first(b)
 }
 
 #[inline(always)]
@@ -99,7 +131,7 @@ fn install(b: &mut Board, found: &Found, k: usize, stat: u8, prio: u8, [sptr, na
     if stat & (Status::WAIT | Status::IWAT | Status::SPARE | Status::INTQ | Status::MHBS | Status::TCBB) != Status::TCBB {
         return 9;
     }
-    let (mut slot, mut next, last) = (TASK_QUEUE, word(b, TASK_QUEUE), found.last_task);
+    let (mut slot, mut next, last) = (TASK_QUEUE, first_task(b), found.last_task);
     if last != 0 && b[task(last) + 1] <= prio {
         slot = task(last) + 2;
         next = 0;
@@ -108,7 +140,7 @@ fn install(b: &mut Board, found: &Found, k: usize, stat: u8, prio: u8, [sptr, na
         slot = task(next) + 2;
         next = word(b, slot);
     }
-    // byte 1 is zero, so the head is a word like any link
+    // the head is written as a word like any link: byte 1 is written below
     put_word(b, slot, k);
     b[task(k)] = stat;
     b[task(k) + 1] = prio;
@@ -116,8 +148,8 @@ fn install(b: &mut Board, found: &Found, k: usize, stat: u8, prio: u8, [sptr, na
     put_word(b, task(k) + 6, sptr);
     put_word(b, task(k) + 8, name);
     let c = found.running;
-    let is_first = c == 0 || prio < b[task(c) + 1];
-    accepted(0, if is_first { k } else { c }, 0)
+    let next = if outranks(b, k, c) { k } else { c };
+    runs(b, next)
 }
 
 #[inline(always)]
@@ -131,7 +163,11 @@ fn post(b: &mut Board, c: usize, k: usize) -> u64 {
         return accepted(0, c, 0);
     }
     b[task(k)] = s & !Status::IWAT;
-    dispatch(b)
+    // a task that waited for an interrupt is due nothing
+    if outranks(b, k, c) {
+        return runs(b, k);
+    }
+    accepted(0, c, 0)
 }
 
 /// Names are compared all at once; only where several are alike is the queue asked which is first.
@@ -148,7 +184,7 @@ fn find(b: &Board, found: &Found, name: usize) -> usize {
     if alike.is_power_of_two() {
         return alike.trailing_zeros() as usize;
     }
-    let mut k = word(b, TASK_QUEUE);
+    let mut k = first_task(b);
     while alike >> k & 1 == 0 {
         k = word(b, task(k) + 2);
     }
@@ -163,17 +199,19 @@ fn cancel_task(b: &mut Board, c: usize, k: usize) -> u64 {
     if word(b, t + 4) != 0 || b[t] & Status::IWAT != 0 || b[PLACES_AT..].contains(&(k as u8)) {
         return 10;
     }
-    let mut slot = TASK_QUEUE;
-    while word(b, slot) != k {
-        slot = task(word(b, slot)) + 2;
+    let (mut slot, mut other) = (TASK_QUEUE, first_task(b));
+    while other != k {
+        slot = task(other) + 2;
+        other = word(b, slot);
     }
     let next = word(b, t + 2);
+    // as in install
     put_word(b, slot, next);
     b[t..t + TASK_LEN].fill(0);
     if k == c {
-        return dispatch(b);
+        return dispatch_first(b);
     }
-    accepted(0, c, 0)
+    runs(b, c)
 }
 
 /// The lowest-numbered free message, 0 for none.
@@ -253,10 +291,10 @@ fn send(b: &mut Board, found: &Found, kind: u8, m: usize, to: usize) -> u64 {
     }
     let woken = into_queue(b, found, m, r);
     if kind % 2 == 1 {
-        return wait(b, c);
+        return wait(b, c, if woken { r } else { 0 });
     }
-    if woken {
-        return dispatch(b);
+    if woken && outranks(b, r, c) {
+        return dispatch(b, r);
     }
     accepted(0, c, 0)
 }
@@ -328,6 +366,6 @@ fn cancel_message(b: &mut Board, c: usize, m: usize, r: usize) -> u64 {
     if s & Status::MHBS != 0 && word(b, task(r) + 4) == 0 {
         b[task(r)] = s & !Status::MHBS | Status::WAIT;
     }
-    // r came behind c, or was due nothing: c runs on
+    // c was due nothing, so it is no r that waits again: it runs on
     accepted(0, c, 0)
 }

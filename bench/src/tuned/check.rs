@@ -1,11 +1,11 @@
 //! R1 to R7 in three passes: places with message records eight at a time, one walk of all that is linked, and the tasks that it
 //! did not meet.
 use super::{message, pieces, place, task, word};
-use model::board::{Board, Status, MESSAGES, MESSAGES_AT, PLACES_AT, TASKS, TASKS_AT};
+use model::board::{Board, Status, MESSAGES, MESSAGES_AT, PLACES_AT, RUNNING, TASKS, TASKS_AT};
 
 /// What the check has come by on a board that passes, for the call that follows.
 pub struct Found {
-    /// The running task, 0 for none.
+    /// The running task, byte 1, 0 for none.
     pub running: usize,
     /// The present tasks, a bit for each; bit 0 is clear.
     pub present: u64,
@@ -23,8 +23,11 @@ pub const REACH: u64 = 0x001F_001F_0000_0000;
 pub const BEYOND: u64 = 0x0040_0040_0000_0000;
 /// One in each of eight bytes.
 const EACH: u64 = 0x0101_0101_0101_0101;
-/// Tasks that wait, for whatever, or are due a message.
-const NOT_AT_EASE: u64 = (Status::WAIT | Status::IWAT | Status::MHBS) as u64;
+/// Tasks that wait, for whatever; and these or such as are due a message.
+const NOT_READY: u64 = (Status::WAIT | Status::IWAT) as u64;
+const NOT_AT_EASE: u64 = NOT_READY | Status::MHBS as u64;
+/// No PRIO of a task.
+const NONE: u64 = 256;
 
 /// What the check finds, none if a rule is broken.
 #[inline(always)]
@@ -32,11 +35,12 @@ pub fn examine(b: &Board) -> Option<Found> {
     let messages = look_at_messages(b)?;
     let mut last = [0; TASKS as usize + 1];
     let walk = walk_tasks(b, messages.queued, &mut last)?;
+    let running = usize::from(b[RUNNING]);
     // each holder is present
-    if messages.holders & !(walk.seen | 1) != 0 || !others_are_zero(b, walk.seen) {
+    if messages.holders & !(walk.seen | 1) != 0 || !walk.can_run(b, running) || !others_are_zero(b, walk.seen) {
         return None;
     }
-    Some(Found { running: walk.running, present: walk.seen, last_task: walk.last_task, last })
+    Some(Found { running, present: walk.seen, last_task: walk.last_task, last })
 }
 
 /// What the first pass gathers.
@@ -83,7 +87,7 @@ impl Messages {
 /// R1, and R4 of free and held messages but for the presence of holders.
 #[inline(always)]
 fn look_at_messages(b: &Board) -> Option<Messages> {
-    let mut all = Messages { bad: u64::from(b[1] | b[2] | b[3]), ..Messages::default() };
+    let mut all = Messages { bad: u64::from(b[2] | b[3]), ..Messages::default() };
     for (eight, places) in pieces::<64>(&b[MESSAGES_AT..PLACES_AT]).zip(pieces::<8>(&b[PLACES_AT..])) {
         let p = u64::from_le_bytes(*places);
         let kinds = p & (EACH * 0xC0);
@@ -104,8 +108,9 @@ fn look_at_messages(b: &Board) -> Option<Messages> {
 /// What the walk gathers, but for the last of each queue: beside an array these would lie in memory.
 struct Walk {
     seen: u64,
-    running: usize,
     last_task: usize,
+    /// The PRIO of the first ready task, the least of a ready one.
+    least_ready: u64,
     /// How many of the queued messages it has not met yet.
     left: usize,
     /// Bits that must be clear, all STATs ORed, and all STATs ANDed.
@@ -122,13 +127,14 @@ struct Walk {
 }
 
 impl Walk {
-    /// R6 and R7 of a task that waits or is due a message; it is known who of the tasks before it runs.
+    /// R7: task c waits for nothing, is due nothing, and nobody ready has a smaller PRIO; c is 0 if nobody is ready.
     #[inline(always)]
-    fn waits_well(&self, stat: u64, mptr: usize) -> bool {
-        let is = |bit: u8| stat & u64::from(bit) != 0;
-        let (wait, iwat, mhbs) = (is(Status::WAIT), is(Status::IWAT), is(Status::MHBS));
-        let muddled = wait && (iwat || mhbs || mptr != 0) || iwat && (mhbs || is(Status::INTQ)) || mhbs && mptr == 0;
-        !muddled && (self.running != 0 || wait || iwat)
+    fn can_run(&self, b: &Board, c: usize) -> bool {
+        if c == 0 {
+            return self.least_ready == NONE;
+        }
+        let is_met = c <= TASKS.into() && self.seen >> c & 1 != 0;
+        is_met && u64::from(b[task(c)]) & NOT_AT_EASE == 0 && u64::from(b[task(c) + 1]) == self.least_ready
     }
 
     /// R5 of task k, whose MPTR is not 0, and R4 of its queued messages: the last of them, none where a link strays or the queue is
@@ -168,13 +174,21 @@ impl Walk {
     }
 }
 
-/// R2 of the tasks that it meets, R3, R5 to R7, and R4 of the messages that it meets.
+/// R6 of a task that waits or is due a message.
+#[inline(always)]
+fn waits_well(stat: u64, mptr: usize) -> bool {
+    let is = |bit: u8| stat & u64::from(bit) != 0;
+    let (wait, iwat, mhbs) = (is(Status::WAIT), is(Status::IWAT), is(Status::MHBS));
+    !(wait && (iwat || mhbs || mptr != 0) || iwat && (mhbs || is(Status::INTQ)) || mhbs && mptr == 0)
+}
+
+/// R2 of the tasks that it meets, R3, R5, R6, and R4 of the messages that it meets.
 #[inline(always)]
 fn walk_tasks(b: &Board, queued: usize, last: &mut [u8; TASKS as usize + 1]) -> Option<Walk> {
     let mut all = Walk {
         seen: 0,
-        running: 0,
         last_task: 0,
+        least_ready: NONE,
         left: queued,
         wrong: 0,
         any_stat: 0,
@@ -199,12 +213,11 @@ fn walk_tasks(b: &Board, queued: usize, last: &mut [u8; TASKS as usize + 1]) -> 
         all.odd &= prio;
         all.all_stat &= stat;
         all.any_stat |= stat;
-        if stat & NOT_AT_EASE != 0 {
-            if !all.waits_well(stat, mptr) {
-                return None;
-            }
-        } else if all.running == 0 {
-            all.running = k;
+        if stat & NOT_AT_EASE != 0 && !waits_well(stat, mptr) {
+            return None;
+        }
+        if all.least_ready == NONE && stat & NOT_READY == 0 {
+            all.least_ready = prio;
         }
         if mptr != 0 {
             last[k] = all.walk_messages(b, k, mptr)?;

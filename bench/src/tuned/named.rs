@@ -2,7 +2,7 @@
 //! boards that it refuses come here.
 use super::check::{BEYOND, FAR, LINK, REACH};
 use super::{message, place, task, word};
-use model::board::{Board, Status, MESSAGES, PLACES_AT, TASKS, TASK_LEN, TASK_QUEUE};
+use model::board::{Board, Status, MESSAGES, PLACES_AT, RUNNING, TASKS, TASK_LEN, TASK_QUEUE};
 
 /// Refusal 2 with the rule and the record, packed.
 #[cold]
@@ -12,12 +12,13 @@ pub fn refused(b: &Board) -> u64 {
     2 | rule << 8 | (record as u64) << 16
 }
 
-/// The lowest broken rule, with the smallest task or message that breaks it, 0 where it is not one for each.
+/// The lowest broken rule, with the smallest task or message that breaks it, 0 where it is not one for each. Where all others are
+/// kept it is R7, whose record is byte 1.
 fn broken(b: &Board) -> (u64, usize) {
     let tasks = || 1..=usize::from(TASKS);
     let mut messages = 1..=usize::from(MESSAGES);
     let present = tasks().fold(0, |bits, k| bits | u64::from(b[task(k)] & Status::TCBB) << k);
-    if b[1] | b[2] | b[3] != 0 {
+    if b[2] | b[3] != 0 {
         return (1, 0);
     }
     if let Some(k) = tasks().find(|&k| !task_is_good(b, k)) {
@@ -36,7 +37,7 @@ fn broken(b: &Board) -> (u64, usize) {
     if let Some(k) = tasks().find(|&k| !state_is_good(b, k)) {
         return (6, k);
     }
-    (7, running(b))
+    (7, b[RUNNING].into())
 }
 
 fn task_is_good(b: &Board, k: usize) -> bool {
@@ -95,13 +96,4 @@ fn state_is_good(b: &Board, k: usize) -> bool {
     let wait = !is(Status::WAIT) || is_empty && !is(Status::IWAT | Status::MHBS);
     let iwat = !is(Status::IWAT) || !is(Status::INTQ | Status::MHBS);
     wait && iwat && !(is(Status::MHBS) && is_empty)
-}
-
-/// The first ready task; where all rules but R7 are kept there is one.
-fn running(b: &Board) -> usize {
-    let mut k = usize::from(b[TASK_QUEUE]);
-    while b[task(k)] & (Status::WAIT | Status::IWAT) != 0 {
-        k = word(b, task(k) + 2);
-    }
-    k
 }

@@ -1,8 +1,9 @@
 -- What dispatch answers and leaves, by the tests that code makes. Assumes nothing.
 use mathlib.Core.Path.{_≡_, refl, sym, ap, _∙_, subst}
-use mathlib.Core.Bool.{Bool, true, false, not, cond}
+use mathlib.Core.Bool.{Bool, true, false, not, cond, _&&_}
 use mathlib.Core.List.{List}
-use Prim.Native.Nat.{ℕ}
+use Prim.Native.Nat.{ℕ, _%_}
+use lib.Dec.{ltb}
 use borrow.Author.Tests.{not-true, not-false}
 use Rattle.board.specs.declared.numbers.Size.{Size}
 use Rattle.board.specs.declared.numbers.TaskNo.{TaskNo}
@@ -13,14 +14,16 @@ use Rattle.board.specs.declared.numbers.MessageMeant.{MessageMeant}
 use Rattle.board.specs.declared.numbers.MessageMeant.the-variants.{Message, NoMessage}
 use Rattle.board.specs.declared.records.Task.{Task}
 use Rattle.board.specs.Numbers.{taskMeant, messageMeant, numberOfTask}
-use Rattle.board.specs.Status.{MHBS, has}
-use Rattle.board.specs.Board.{boardOf, task}
+use Rattle.board.specs.Status.{MHBS, has, isReady, number}
+use Rattle.board.specs.Board.{Board, boardOf, task}
+use Rattle.board.specs.Writes.{putRunning}
+use Rattle.board.proofs.Codec.{length-tasks}
 use Rattle.board.proofs.Meant.{messageMeant-message, messageMeant-none}
 use Rattle.paper.specs.declared.answer.Refusal.{Refusal}
 use Rattle.paper.specs.declared.answer.Refusal.the-variants.{NothingToDeliver}
 use Rattle.paper.specs.declared.answer.Answer.{Answer}
 use Rattle.paper.specs.declared.answer.Answer.the-variants.{Accepted, Refused}
-use Rattle.paper.specs.Rules.{running}
+use Rattle.paper.specs.Rules.{taskNumber, ready, outranks, firstReady}
 use Rattle.paper.specs.Outcomes.{Outcome, Ends}
 use Rattle.stores.specs.declared.Body.{Body}
 use Rattle.stores.specs.declared.Body.the-variants.{Done, Stopped}
@@ -29,7 +32,7 @@ use Rattle.stores.specs.Moves.{messageBehind}
 use Rattle.stores.specs.Effects.{takeFirst}
 use Rattle.stores.specs.Answers.{withNobody}
 use Rattle.stores.specs.Calls.{deliver, dispatch, runsThen, finish}
-use Rattle.inner.proofs.Runner.{runner-number}
+use Rattle.linked.proofs.Chosen.{first-meant}
 use Rattle.inner.proofs.Steps.{ends}
 
 -- ---- task k, of record t, is dispatched: on is the test that it is due a message
@@ -72,31 +75,84 @@ module _ (z : Size) (v : ℕ) (l : List ℕ) (k : TaskNo) {t : Task} (et : t ≡
         let q : e ≡ clears z (takeFirst z l (k .0)) (k .0) MHBS = ee ∙ (λ a. clears z (ed a) (k .0) MHBS) in
         ends (by true (not-false on h) ∙ ap handed (o .0) ∙ (λ a. record { answer = Accepted v (sym en a) (sym u a); after = sym q a }))
 
--- ---- who runs then
-pub looks-again : (z : Size) (c : ℕ) (l : List ℕ) {s : Bool} {x : TaskMeant} → s ≡ true → x ≡ taskMeant z (running z (boardOf z l))
-    → numberOfTask x ≡ runsThen z c s l
-looks-again z c l e ex = ap numberOfTask ex ∙ runner-number z l ∙ ap (λ (s : Bool). runsThen z c s l) (sym e)
+-- ---- a task w is ready, and of a smaller number than t
+module _ (z : Size) (l : List ℕ) (t : Task) (w : TaskNo) {u : Task} (eu : u ≡ task (boardOf z l) (w .0)) {r : Bool} (er : r ≡ isReady (u .stat)) where
+  abbrev ahead : Bool
+  ahead = ready (boardOf z l) (w .0) && ltb (taskNumber (boardOf z l) (w .0)) (number (t .prio))
 
-pub still-runs : (z : Size) (c : ℕ) (l : List ℕ) {s : Bool} → s ≡ false → c ≡ runsThen z c s l
-still-runs z c l e = ap (λ (s : Bool). runsThen z c s l) (sym e)
+  is-ready : r ≡ ready (boardOf z l) (w .0)
+  is-ready = er ∙ ap (λ (x : Task). isReady (x .stat)) eu
 
--- ---- behind a body, c having run before it
-pub stopped : (z : Size) (c : ℕ) (l : List ℕ) {y : Body} {q : Refusal} {a : Answer} → y ≡ Stopped q → a ≡ withNobody y
-    → Ends a l (finish z c y l)
-stopped z c l {a = a} e ea =
-    subst (λ (x : Body). Ends a l (finish z c x l)) (sym e) (record { answers = ea ∙ ap withNobody e; leaves = refl })
+  pub ahead-not : not r ≡ true → false ≡ ahead
+  ahead-not h = ap (λ (x : Bool). x && ltb (taskNumber (boardOf z l) (w .0)) (number (t .prio))) (sym (not-true r h) ∙ is-ready)
 
--- it was done; x is who runs then
-module _ (z : Size) (c : ℕ) (l : List ℕ) {y : Body} {v : ℕ} {s : Bool} (e : y ≡ Done v s) (x : TaskMeant)
-    (ex : numberOfTask x ≡ runsThen z c s l) where
-  finished : (n : ℕ) → numberOfTask x ≡ n → dispatch z v l n ≡ finish z c y l
-  finished n en = ap (dispatch z v l) (sym en ∙ ex) ∙ ap (λ (y : Body). finish z c y l) (sym e)
+  pub ahead-so : {p q : ℕ} → not r ≡ false → p ≡ number (u .prio) → q ≡ number (t .prio) → ltb p q ≡ ahead
+  ahead-so h ep eq =
+      (λ i. ltb ((ep ∙ ap (λ (x : Task). number (x .prio)) eu) i) (eq i))
+      ∙ ap (λ (x : Bool). x && ltb (taskNumber (boardOf z l) (w .0)) (number (t .prio))) (sym (not-false r h) ∙ is-ready)
+
+-- ---- who runs then: c ran before, and s is the task stirred
+module _ (z : Size) (l : List ℕ) (c s : TaskMeant) where
+  abbrev b : Board
+  b = boardOf z l
+
+  then-by : (t u : Bool) → ready b (numberOfTask c) ≡ t → outranks b (numberOfTask c) (numberOfTask s) ≡ u
+      → cond t (cond u (numberOfTask s) (numberOfTask c)) (firstReady z b) ≡ runsThen z (numberOfTask c) s l
+  then-by t u e f = λ i. cond (sym e i) (cond (sym f i) (numberOfTask s) (numberOfTask c)) (firstReady z b)
+
+  -- the task queue is looked through: x is the first ready one
+  looked : {x : TaskMeant} → x ≡ taskMeant z (firstReady z b) → ready b (numberOfTask c) ≡ false → numberOfTask x ≡ runsThen z (numberOfTask c) s l
+  looked ex e = ap numberOfTask ex ∙ first-meant z b (length-tasks z l) ∙ then-by false _ e refl
+
+  -- nobody ran
+  pub then-nobody : {x : TaskMeant} → c ≡ who.NoTask → x ≡ taskMeant z (firstReady z b) → numberOfTask x ≡ runsThen z (numberOfTask c) s l
+  then-nobody e ex = looked ex (ap (λ (y : TaskMeant). ready b (numberOfTask y)) e)
+
+  -- k did, of record t, and r is the test that it is ready
+  module _ {k : TaskNo} (e : c ≡ who.Task k) {t : Task} (et : t ≡ task b (k .0)) {r : Bool} (er : r ≡ isReady (t .stat)) where
+    number-k : k .0 ≡ numberOfTask c
+    number-k = ap numberOfTask (sym e)
+
+    still : r ≡ ready b (numberOfTask c)
+    still = er ∙ ap (λ (x : Task). isReady (x .stat)) et ∙ ap (ready b) number-k
+
+    -- it no longer is
+    pub then-waits : {x : TaskMeant} → not r ≡ true → x ≡ taskMeant z (firstReady z b) → numberOfTask x ≡ runsThen z (numberOfTask c) s l
+    then-waits h ex = looked ex (sym still ∙ not-true r h)
+
+    module _ (h : not r ≡ false) where
+      on : ready b (numberOfTask c) ≡ true
+      on = sym still ∙ not-false r h
+
+      -- nobody was stirred
+      pub then-alone : s ≡ who.NoTask → k .0 ≡ runsThen z (numberOfTask c) s l
+      then-alone n = number-k ∙ then-by true false on (ap (λ (y : TaskMeant). outranks b (numberOfTask c) (numberOfTask y)) n)
+
+      -- w was, and o says whether it goes ahead
+      module _ {w : TaskNo} (ew : s ≡ who.Task w) {o : Bool} (eo : o ≡ ready b (w .0) && ltb (taskNumber b (w .0)) (number (t .prio))) where
+        outranked : o ≡ outranks b (numberOfTask c) (numberOfTask s)
+        outranked =
+            eo ∙ (λ i. ready b (w .0) && ltb (taskNumber b (w .0)) (number (et i .prio)))
+            ∙ (λ i. outranks b (number-k i) (numberOfTask (sym ew i)))
+
+        pub then-stirred : o ≡ true → w .0 ≡ runsThen z (numberOfTask c) s l
+        then-stirred y = ap numberOfTask (sym ew) ∙ then-by true true on (sym outranked ∙ y)
+
+        pub then-goes-on : o ≡ false → k .0 ≡ runsThen z (numberOfTask c) s l
+        then-goes-on y = number-k ∙ then-by true false on (sym outranked ∙ y)
+
+-- ---- behind a body that was done, c having run before it: x is who runs then, and m the bytes with that in byte 1
+module _ (z : Size) (c : ℕ) (l : List ℕ) {y : Body} {v : ℕ} {s : TaskMeant} (e : y ≡ Done v s) (x : TaskMeant)
+    (ex : numberOfTask x ≡ runsThen z c s l) {m : List ℕ} (em : m ≡ putRunning l (numberOfTask x % 256)) where
+  finished : (n : ℕ) → numberOfTask x ≡ n → dispatch z v m n ≡ finish z c y l
+  finished n en =
+      (λ i. dispatch z v (em i) (sym en i)) ∙ (λ i. dispatch z v (putRunning l (ex i % 256)) (ex i)) ∙ ap (λ (y : Body). finish z c y l) (sym e)
 
   -- nobody
-  pub finish-nobody : {a : Answer} → x ≡ who.NoTask → a ≡ withNobody (Done v s) → Ends a l (finish z c y l)
+  pub finish-nobody : {a : Answer} → x ≡ who.NoTask → a ≡ withNobody (Done v s) → Ends a m (finish z c y l)
   finish-nobody {a = a} n ea =
-      subst (Ends a l) (finished 0 (ap numberOfTask n)) (record { answers = ea; leaves = refl })
+      subst (Ends a m) (finished 0 (ap numberOfTask n)) (record { answers = ea; leaves = refl })
 
   -- k
-  pub finish-runs : {k : TaskNo} {a : Answer} {d : List ℕ} → x ≡ who.Task k → Ends a d (dispatch z v l (k .0)) → Ends a d (finish z c y l)
+  pub finish-runs : {k : TaskNo} {a : Answer} {d : List ℕ} → x ≡ who.Task k → Ends a d (dispatch z v m (k .0)) → Ends a d (finish z c y l)
   finish-runs {k = k} {a = a} {d = d} r = subst (Ends a d) (finished (k .0) (ap numberOfTask r))

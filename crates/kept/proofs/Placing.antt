@@ -207,11 +207,11 @@ module _ (z : Size) (b : Board) (order : List ℕ) (queues : ℕ → List ℕ) (
 pub sender-passed : (z : Size) (b : Board) (c m r : ℕ) (tests : List Test) → lowest (no3 c ∷ no4 z m ∷ no5 b c m ∷ no6 z b r ∷ tests) ≡ Go
     → (c ≢ 0) × (place b m ≡ HeldBy (taskNo c)) × (present b r ≡ true) × (lowest tests ≡ Go)
 sender-passed z b c m r tests g =
-      let s = go-passed (no3 c) (no4 z m ∷ no5 b c m ∷ no6 z b r ∷ tests) g in
-      let t = go-passed (no4 z m) (no5 b c m ∷ no6 z b r ∷ tests) (s .1) in
-      let u = go-passed (no5 b c m) (no6 z b r ∷ tests) (t .1) in
-      let v = go-passed (no6 z b r) tests (u .1) in
-      (runner-passed c (s .0), held-passed b c m (u .0), task-passed z b r (v .0) .1, v .1)
+    let s = go-passed (no3 c) (no4 z m ∷ no5 b c m ∷ no6 z b r ∷ tests) g in
+    let t = go-passed (no4 z m) (no5 b c m ∷ no6 z b r ∷ tests) (s .1) in
+    let u = go-passed (no5 b c m) (no6 z b r ∷ tests) (t .1) in
+    let v = go-passed (no6 z b r) tests (u .1) in
+    (runner-passed c (s .0), held-passed b c m (u .0), task-passed z b r (v .0) .1, v .1)
 
 module _ (z : Size) (b : Board) (order : List ℕ) (queues : ℕ → List ℕ) (sizes : Sizes z) (settled : Settled z b order queues)
     (c : ℕ) (awake : Awake b c) where

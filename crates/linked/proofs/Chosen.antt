@@ -64,15 +64,19 @@ module _ (z : Size) (b : Board) (tasks : length (b .tasks) ≡ z .tasks) where
   pub first-numbered : firstReady z b ≢ 0 → Numbered (z .tasks) (firstReady z b)
   first-numbered n = ready-numbered (firstReady z b) (first-with (ready b) (order z b) n .1)
 
-  -- the first ready one as the task meant
-  pub first-meant : numberOfTask (taskMeant z (firstReady z b)) ≡ firstReady z b
-  first-meant = step (ℕ-discrete (firstReady z b) 0)
+  -- a task that is ready, if there is one, as the task meant
+  pub awake-meant : (c : ℕ) → (c ≢ 0 → ready b c ≡ true) → numberOfTask (taskMeant z c) ≡ c
+  awake-meant c h = step (ℕ-discrete c 0)
     where
-      step : Dec (firstReady z b ≡ 0) → numberOfTask (taskMeant z (firstReady z b)) ≡ firstReady z b
+      step : Dec (c ≡ 0) → numberOfTask (taskMeant z c) ≡ c
       step (yes e) = ap (λ (k : ℕ). numberOfTask (taskMeant z k)) e ∙ sym e
       step (no n) =
-          let i = first-numbered n in
-          ap (λ (t : Bool). numberOfTask (cond t NoTask (Task (taskNo (firstReady z b))))) (within-outside (z .tasks) (firstReady z b) (i .0) (i .1))
+          let i = ready-numbered c (h n) in
+          ap (λ (t : Bool). numberOfTask (cond t NoTask (Task (taskNo c)))) (within-outside (z .tasks) c (i .0) (i .1))
+
+  -- so the first ready one
+  pub first-meant : numberOfTask (taskMeant z (firstReady z b)) ≡ firstReady z b
+  first-meant = awake-meant (firstReady z b) (λ n. first-with (ready b) (order z b) n .1)
 
   -- nobody is ready
   pub says-nobodyReady : Says (nobodyReady z b) ((k : ℕ) → ready b k ≡ false)

@@ -37,7 +37,11 @@ pub fn then_wait(z: Size, l: &mut [u8], c: TaskMeant, placed: Body) -> Body
     requires { ⌜ total z ≤ length (now l) ⌝ }
     ensures { λ res. ⌜ Makes res (now (l .exit)) (waiting z (numberOfTask c) placed (now (l .entry))) ⌝ }
 {
-    let Body::Done { value: _, stirred: r } = placed else {
+    let Body::Done {
+        value: _,
+        stirred: r,
+    } = placed
+    else {
         return placed;
     };
     wait(z, l, c);

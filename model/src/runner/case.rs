@@ -3,17 +3,19 @@
 use std::fmt::Write;
 use std::io::{self, Read};
 
-use crate::{check, fresh, step, Answer, Call, Rule};
+use crate::{check, convert, fresh, step, Answer, Call, Rule};
 
 /// The kind that checks a board.
 pub const CHECK: u8 = 0;
 /// The kind that makes a fresh board, between the drivers of cases: to the library it is no call.
 pub const FRESH: u8 = 254;
+/// The kind that converts an old board, between the drivers as well.
+pub const CONVERT: u8 = 253;
 /// The number given for a kind that is no call.
 pub const NO_CALL: u8 = 255;
 
 /// The kinds that are something, with their names.
-pub const KINDS: [(u8, &str); 21] = [
+pub const KINDS: [(u8, &str); 22] = [
     (CHECK, "check"),
     (1, "install"),
     (2, "post interrupt"),
@@ -35,6 +37,7 @@ pub const KINDS: [(u8, &str); 21] = [
     (18, "cancel message"),
     (19, "wait for interrupt"),
     (FRESH, "fresh"),
+    (CONVERT, "convert"),
 ];
 
 const REQUEST_LEN: usize = 9;
@@ -119,6 +122,7 @@ impl Case {
         let answer = match (self.request.kind, self.request.call()) {
             (CHECK, _) => Some(check(&after)),
             (FRESH, _) => Some(fresh(&mut after)),
+            (CONVERT, _) => Some(convert(&mut after)),
             (_, call) => call.map(|call| step(&mut after, call)),
         };
         Reply { answer, after }

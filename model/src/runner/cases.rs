@@ -1,10 +1,10 @@
 //! All cases of a seed: histories, and beside them cases that lead nowhere.
 
-use super::case::{Case, Request, CHECK, FRESH};
+use super::case::{Case, Request, CHECK, CONVERT, FRESH};
 use super::damage::damage;
 use super::history::{wild, History};
 use super::random::Random;
-use crate::board::BOARD_LEN;
+use crate::board::{Board, BOARD_LEN, RUNNING};
 
 /// So many cases, always the same for a seed.
 pub fn cases_of_seed(seed: u64, count: usize) -> Vec<Case> {
@@ -30,8 +30,9 @@ pub fn cases_of_seed(seed: u64, count: usize) -> Vec<Case> {
 fn aside(history: &History, random: &mut Random) -> Case {
     let board = history.board.to_vec();
     match random.below(100) {
-        0..60 => damaged(history, random),
-        60..85 => Case { request: wild(random), board },
+        0..56 => damaged(history, random),
+        56..64 => conversion(history.board, random),
+        64..85 => Case { request: wild(random), board },
         85..92 => wrong_length(history, random),
         92..96 => Case { request: Request { kind: 20 + random.below(236) as u8, ..wild(random) }, board },
         96..98 => Case { request: Request { kind: FRESH, ..wild(random) }, board },
@@ -44,12 +45,21 @@ fn damaged(history: &History, random: &mut Random) -> Case {
     damage(&mut board, random);
     let mut request = history.request(random);
     match random.below(20) {
-        0..8 => request.kind = CHECK,
-        8 => request.kind = FRESH,
-        9 => request = wild(random),
+        0..7 => request.kind = CHECK,
+        7 => request.kind = FRESH,
+        8 => request = wild(random),
+        9..12 => return conversion(board, random),
         _ => (),
     }
     Case { request, board: board.to_vec() }
+}
+
+/// The board as it was saved once, with byte 1 zero; at times as it is.
+fn conversion(mut board: Board, random: &mut Random) -> Case {
+    if random.chance(90) {
+        board[RUNNING] = 0;
+    }
+    Case { request: Request { kind: CONVERT, ..wild(random) }, board: board.to_vec() }
 }
 
 /// A board cut short or with bytes behind it. Most are near the right length: the longest one costs as much as forty others.

@@ -1,7 +1,11 @@
 //! Faults put into a good board. Some leave it good, which is wanted too: such boards no history makes.
 
+use super::history::task_where;
 use super::random::Random;
-use crate::board::{set_word, word, Board, MsgNo, Status, TaskNo, BOARD_LEN, MESSAGES, MESSAGE_LEN, TASKS, TASK_LEN, TASK_QUEUE};
+use crate::board::{
+    set_word, word, Board, MsgNo, Status, TaskNo, BOARD_LEN, MESSAGES, MESSAGE_LEN, RUNNING, TASKS, TASK_LEN, TASK_QUEUE,
+};
+use crate::check::running;
 use crate::{step, Call};
 
 /// One to three faults.
@@ -12,7 +16,7 @@ pub fn damage(b: &mut Board, random: &mut Random) {
 }
 
 fn fault(b: &mut Board, random: &mut Random) {
-    match random.below(20) {
+    match random.below(24) {
         0 => b[random.below(BOARD_LEN)] = random.byte(),
         1 => b[random.upto(3) as usize] = random.byte(),
         2 | 3 => redirected_link(b, random),
@@ -23,6 +27,8 @@ fn fault(b: &mut Board, random: &mut Random) {
         13 => swapped(b, random),
         14 => changed_message_field(b, random),
         15 => changed_task(b, random),
+        16 | 17 => misnamed_running(b, random),
+        18 => equal_is_due(b, random),
         _ => aimed(b, random),
     }
 }
@@ -181,6 +187,38 @@ fn edge_priority(b: &mut Board, present: &[TaskNo], random: &mut Random) {
     k.iter().for_each(|k| b[k.prio_at()] = edge);
 }
 
+/// Byte 1 names nobody, a number beyond the tasks, a task that is absent or waits, or a ready one of a larger priority number.
+fn misnamed_running(b: &mut Board, random: &mut Random) {
+    let waits = |k: TaskNo| k.is_present(b) && !k.is_ready(b);
+    let is_outranked = |k: TaskNo| k.is_ready(b) && running(b).is_some_and(|c| c.prio(b) < k.prio(b));
+    b[RUNNING] = match random.below(5) {
+        0 => 0,
+        1 => 33 + random.below(223) as u8,
+        2 => task_where(random, |k| !k.is_present(b)) as u8,
+        3 => task_where(random, waits) as u8,
+        _ => task_where(random, is_outranked) as u8,
+    };
+}
+
+/// Of two ready tasks of one priority, one runs and the other, earlier or later, is due a message. That is no fault, but on an
+/// old board. Where the running task has no such equal, one is installed.
+fn equal_is_due(b: &mut Board, random: &mut Random) {
+    let Some(c) = running(b) else { return };
+    if ready_equal(b, c).is_none() {
+        let absent = task_where(random, |k| !k.is_present(b));
+        install_with(b, absent, c.prio(b));
+    }
+    let Some(k) = ready_equal(b, c) else { return };
+    let (runs, due) = if random.chance(30) { (c, k) } else { (k, c) };
+    b[RUNNING] = runs.byte();
+    make_due(b, due);
+}
+
+/// Another ready task of the same priority.
+fn ready_equal(b: &Board, c: TaskNo) -> Option<TaskNo> {
+    TaskNo::all().find(|k| *k != c && k.is_ready(b) && k.prio(b) == c.prio(b))
+}
+
 /// A fault that breaks one rule at one record, often the first or the last: the other faults meet these too rarely for a short
 /// run.
 fn aimed(b: &mut Board, random: &mut Random) {
@@ -232,7 +270,7 @@ fn bad_state(b: &mut Board, k: TaskNo, random: &mut Random) {
     k.set_status(b, k.status(b).with(random.pick(&bits)));
 }
 
-/// R7: the task has a message and is due it, and all others wait for an interrupt.
+/// R7: the task runs, has a message and is due it, and all others wait for an interrupt.
 fn due_while_it_runs(b: &mut Board, k: TaskNo) {
     install(b, k);
     for other in TaskNo::all() {
@@ -240,7 +278,14 @@ fn due_while_it_runs(b: &mut Board, k: TaskNo) {
             other.set_status(b, Status(Status::TCBB | Status::IWAT));
         }
     }
-    k.set_status(b, Status(Status::TCBB | Status::MHBS));
+    b[RUNNING] = k.byte();
+    k.set_status(b, Status(Status::TCBB));
+    make_due(b, k);
+}
+
+/// The task is due a message; it gets one that is free if it has none.
+fn make_due(b: &mut Board, k: TaskNo) {
+    k.set_status(b, k.status(b).with(Status::MHBS));
     if word(b, k.queue_slot()) != 0 {
         return;
     }
@@ -252,5 +297,9 @@ fn due_while_it_runs(b: &mut Board, k: TaskNo) {
 
 /// Installs a task that is absent, on a board that is good so far.
 fn install(b: &mut Board, k: TaskNo) {
-    step(b, Call::Install { task: k.number(), stat: Status::TCBB, prio: 0x33, sptr: 0, name: 0 });
+    install_with(b, k.number(), 0x33);
+}
+
+fn install_with(b: &mut Board, task: u16, prio: u8) {
+    step(b, Call::Install { task, stat: Status::TCBB, prio, sptr: 0, name: 0 });
 }

@@ -243,7 +243,7 @@ pub fn wild(random: &mut Random) -> Request {
 }
 
 /// A task of which this holds, else any.
-fn task_where(random: &mut Random, holds: impl Fn(TaskNo) -> bool) -> u16 {
+pub(super) fn task_where(random: &mut Random, holds: impl Fn(TaskNo) -> bool) -> u16 {
     let found = random.pick_where(TASKS, |k| TaskNo::new(k).is_some_and(&holds));
     found.unwrap_or_else(|| random.upto(TASKS))
 }

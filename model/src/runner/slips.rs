@@ -1,12 +1,14 @@
-//! Answers with a known slip in them, made from the model's by changing the reply afterwards. They test the differential run:
-//! it must notice every one.
+//! Answers with a known slip in them, made by changing the model's reply afterwards, or by putting its steps together otherwise.
+//! They test the differential run: it must notice every one.
 
-use super::case::{Case, Reply, CHECK};
-use crate::board::{set_word, word, Board, MsgNo, Status, TaskNo, MESSAGES, MESSAGE_LEN};
-use crate::check::{queue_is_good, queued_messages, running, status_fits, task_is_good, task_queue_is_good};
-use crate::{check, Answer, Refusal, Rule};
+use super::case::{Case, Reply, CHECK, CONVERT};
+use crate::board::{set_word, word, Board, MsgNo, Status, TaskNo, MESSAGES, MESSAGE_LEN, RUNNING};
+use crate::calls::{dispatch, effect, runs_next};
+use crate::check::{first_ready, queue_is_good, queued_messages, running, running_is_good, status_fits};
+use crate::check::{task_is_good, task_queue_is_good};
+use crate::{check, convert, Answer, Refusal, Rule};
 
-/// The slips of document 01 that look right, and slips in naming a broken rule.
+/// The slips of document 01 that look right, slips in naming a broken rule, and slips in who runs.
 #[derive(Clone, Copy, Debug, PartialEq, Eq)]
 #[allow(missing_docs)]
 pub enum Slip {
@@ -20,10 +22,17 @@ pub enum Slip {
     StrayedMessagesTask,
     R7BeforeR6,
     RecordWithR3,
+    R7NamesFirstReady,
+    FirstReadyRuns,
+    EqualOutranks,
+    Byte1LeftWhenItsTaskWaits,
+    DeliveryBeforeWhoRuns,
+    EarlierEqualDueRefused,
+    ConversionOverlooksByte1,
 }
 
 /// All slips by name.
-pub const SLIPS: [(&str, Slip); 10] = [
+pub const SLIPS: [(&str, Slip); 17] = [
     ("lifo-keeps-bit-0-clear", Slip::LifoKeepsBit0Clear),
     ("message-handed-when-sent", Slip::MessageHandedWhenSent),
     ("cancel-leaves-ready", Slip::CancelLeavesReady),
@@ -34,6 +43,13 @@ pub const SLIPS: [(&str, Slip); 10] = [
     ("strayed-messages-task", Slip::StrayedMessagesTask),
     ("r7-before-r6", Slip::R7BeforeR6),
     ("record-with-r3", Slip::RecordWithR3),
+    ("r7-names-first-ready", Slip::R7NamesFirstReady),
+    ("first-ready-runs", Slip::FirstReadyRuns),
+    ("equal-outranks", Slip::EqualOutranks),
+    ("byte-1-left-when-its-task-waits", Slip::Byte1LeftWhenItsTaskWaits),
+    ("delivery-before-who-runs", Slip::DeliveryBeforeWhoRuns),
+    ("earlier-equal-due-refused", Slip::EarlierEqualDueRefused),
+    ("conversion-overlooks-byte-1", Slip::ConversionOverlooksByte1),
 ];
 
 impl Slip {
@@ -57,10 +73,13 @@ impl Slip {
         let Ok(before) = <&Board>::try_from(&case.board[..]) else { return reply };
         if self == Slip::SharedTailPasses && case.request.kind == CHECK {
             reply.answer = Some(check(&without_shared_tails(before)));
+        } else if self == Slip::ConversionOverlooksByte1 && case.request.kind == CONVERT {
+            return converted_again(before);
         } else if let Some(rule) = reply.rule() {
             reply.answer = Some(Answer::Refused(Refusal::BrokenRule(self.misname(before, rule))));
         } else if let Some(Answer::Accepted { .. }) = reply.answer {
             self.spoil(case, before, &mut reply);
+            return self.run_another(case, before).unwrap_or(reply);
         }
         reply
     }
@@ -71,7 +90,8 @@ impl Slip {
             (Slip::HighestRule, _) => highest(b),
             (Slip::LargestRecord, _) => largest(b, rule),
             (Slip::StrayedMessagesTask, Rule::R5(k)) => strayed_to(b, k).map(Rule::R5),
-            (Slip::R7BeforeR6, Rule::R6(_)) => running(b).filter(|c| c.status(b).has(Status::MHBS)).map(Rule::R7),
+            (Slip::R7BeforeR6, Rule::R6(_)) => (!running_is_good(b)).then_some(Rule::R7(b[RUNNING])),
+            (Slip::R7NamesFirstReady, Rule::R7(_)) => first_ready(b).map(TaskNo::byte).map(Rule::R7),
             _ => None,
         };
         misnamed.unwrap_or(rule)
@@ -94,6 +114,60 @@ impl Slip {
             (Slip::CancelLeavesReady, 18, Some(r)) => r.set_status(after, r.status(after).without(Status::WAIT)),
             _ => (),
         }
+    }
+
+    /// The reply to an accepted call after whose effect another task runs, or this one otherwise.
+    fn run_another(self, case: &Case, before: &Board) -> Option<Reply> {
+        let (c, mut b) = (running(before), *before);
+        let value = effect(&mut b, c, case.request.call()?).ok()?;
+        let (first, next, readied) = (first_ready(&b), runs_next(&b), readied_equal(before, &b));
+        let answer = match self {
+            Slip::FirstReadyRuns => dispatch(&mut b, first, value),
+            Slip::EqualOutranks => dispatch(&mut b, readied.or(next), value),
+            Slip::Byte1LeftWhenItsTaskWaits => {
+                let answer = dispatch(&mut b, next, value);
+                c.filter(|c| c.is_present(&b) && !c.is_ready(&b)).iter().for_each(|c| b[RUNNING] = c.byte());
+                answer
+            }
+            Slip::DeliveryBeforeWhoRuns => delivered_first(&mut b, c, value),
+            Slip::EarlierEqualDueRefused => refused_for_earlier(&mut b, before)?,
+            _ => return None,
+        };
+        Some(Reply { answer: Some(answer), after: b.to_vec() })
+    }
+}
+
+/// The task of equal priority with the running one that the call has made ready.
+fn readied_equal(before: &Board, after: &Board) -> Option<TaskNo> {
+    let c = running(before)?;
+    TaskNo::all().find(|k| k.prio(after) == c.prio(after) && k.is_ready(after) && !k.is_ready(before))
+}
+
+/// The task that ran is handed what it is due, and only then it is asked who runs.
+fn delivered_first(b: &mut Board, c: Option<TaskNo>, value: u16) -> Answer {
+    let mut answer = dispatch(b, c, value);
+    let next = runs_next(b);
+    b[RUNNING] = next.map_or(0, TaskNo::byte);
+    if let Answer::Accepted { running, .. } = &mut answer {
+        *running = b[RUNNING].into();
+    }
+    answer
+}
+
+/// R7 as it was: it is the first ready task that must be due nothing.
+fn refused_for_earlier(b: &mut Board, before: &Board) -> Option<Answer> {
+    let first = first_ready(before).filter(|first| first.status(before).has(Status::MHBS))?;
+    *b = *before;
+    Some(Answer::Refused(Refusal::BrokenRule(Rule::R7(first.byte()))))
+}
+
+/// The conversion, where R1 of an old board is taken for that of today.
+fn converted_again(before: &Board) -> Reply {
+    let mut b = *before;
+    b[RUNNING] = 0;
+    match convert(&mut b) {
+        Answer::Refused(refusal) => Reply { answer: Some(Answer::Refused(refusal)), after: before.to_vec() },
+        accepted => Reply { answer: Some(accepted), after: b.to_vec() },
     }
 }
 

@@ -2,15 +2,16 @@
 
 use std::fmt;
 
-use super::case::{Case, Reply, FRESH, KINDS, NO_CALL};
-use crate::board::{Board, TaskNo, MESSAGES, TASKS};
+use super::case::{Case, Reply, CONVERT, FRESH, KINDS, NO_CALL};
+use crate::board::{Board, Status, TaskNo, MESSAGES, TASKS};
+use crate::check::{first_ready, running};
 use crate::Rule;
 
 /// The highest refusal that a board can get: number 15 needs a board that passes and yet has MHBS over an empty queue.
 const LAST_REFUSAL: usize = 14;
 
-/// Where a rule can be named. One without records is named at the first of these.
-const SPOTS: [&str; 3] = ["its first record", "a record between", "its last record"];
+/// Where a rule can be named. One without records is named at the first of these, and only R7 at what is no record.
+const SPOTS: [&str; 5] = ["its first record", "a record between", "its last record", "byte 1 of 0", "byte 1 beyond the tasks"];
 
 /// Counts over many cases.
 #[derive(Clone, Debug)]
@@ -23,6 +24,11 @@ pub struct Tally {
     broken: [usize; 256],
     refusals: [usize; 256],
     rules: [[usize; SPOTS.len()]; 8],
+    /// Those of the rules that are an old board's.
+    old_rules: [usize; 8],
+    /// Boards that a call has left, where an earlier task of equal priority is ready, and where it is due a message.
+    later_runs: usize,
+    earlier_due: usize,
     longest_queue: usize,
     most_tasks: usize,
 }
@@ -36,6 +42,9 @@ impl Default for Tally {
             broken: [0; 256],
             refusals: [0; 256],
             rules: Default::default(),
+            old_rules: [0; 8],
+            later_runs: 0,
+            earlier_due: 0,
             longest_queue: 0,
             most_tasks: 0,
         }
@@ -53,6 +62,7 @@ impl Tally {
         if let Some(rule) = reply.rule() {
             self.broken[kind] += 1;
             self.rules[usize::from(rule.number())][spot(rule)] += 1;
+            self.old_rules[usize::from(rule.number())] += usize::from(case.request.kind == CONVERT);
         }
         if refusal == 0 {
             self.measure(&reply.after);
@@ -67,6 +77,9 @@ impl Tally {
         places.filter(|place| **place > 64).for_each(|place| queued[usize::from(place - 64)] += 1);
         self.longest_queue = queued.into_iter().fold(self.longest_queue, usize::max);
         self.most_tasks = self.most_tasks.max(TaskNo::all().filter(|k| k.is_present(b)).count());
+        let earlier = first_ready(b).filter(|first| running(b) != Some(*first));
+        self.later_runs += usize::from(earlier.is_some());
+        self.earlier_due += usize::from(earlier.is_some_and(|k| k.status(b).has(Status::MHBS)));
     }
 
     /// Adds the counts of other cases.
@@ -78,6 +91,9 @@ impl Tally {
         sum(&mut self.broken, &other.broken);
         sum(&mut self.refusals, &other.refusals);
         sum(self.rules.as_flattened_mut(), other.rules.as_flattened());
+        sum(&mut self.old_rules, &other.old_rules);
+        self.later_runs += other.later_runs;
+        self.earlier_due += other.earlier_due;
         self.longest_queue = self.longest_queue.max(other.longest_queue);
         self.most_tasks = self.most_tasks.max(other.most_tasks);
     }
@@ -91,7 +107,17 @@ impl Tally {
         let broken = judges.filter(|(kind, _)| unseen(&self.broken, kind)).map(|(_, name)| format!("{name} of a broken board"));
         let numbers = (1..=LAST_REFUSAL).chain([NO_CALL.into()]);
         let refusals = numbers.filter(|number| unseen(&self.refusals, number)).map(|number| format!("refusal {number}"));
-        calls.chain(broken).chain(refusals).chain((1..=7).flat_map(|rule| self.missing_spots(rule))).collect()
+        let old = (1..=7).filter(|rule| unseen(&self.old_rules, rule)).map(|rule| format!("R{rule} of an old board"));
+        let spots = (1..=7).flat_map(|rule| self.missing_spots(rule));
+        calls.chain(broken).chain(refusals).chain(old).chain(spots).chain(self.missing_equals()).collect()
+    }
+
+    fn missing_equals(&self) -> impl Iterator<Item = String> {
+        let counts = [(self.later_runs, "ready"), (self.earlier_due, "due a message")];
+        counts
+            .into_iter()
+            .filter(|(count, _)| *count == 0)
+            .map(|(_, what)| format!("an earlier equal of the running task {what}"))
     }
 
     fn missing_spots(&self, rule: usize) -> impl Iterator<Item = String> + '_ {
@@ -104,17 +130,20 @@ impl Tally {
 fn spots(rule: usize) -> usize {
     match rule {
         1 | 3 => 1,
-        _ => SPOTS.len(),
+        7 => SPOTS.len(),
+        _ => 3,
     }
 }
 
 /// Where the rule is named.
 fn spot(rule: Rule) -> usize {
     let last = if matches!(rule, Rule::R4(_)) { MESSAGES } else { TASKS };
-    match rule.record() {
-        0 | 1 => 0,
-        record if record < last => 1,
-        _ => 2,
+    match (rule, rule.record()) {
+        (Rule::R7(0), _) => 3,
+        (_, 0 | 1) => 0,
+        (_, record) if record < last => 1,
+        (_, record) if record == last => 2,
+        _ => 4,
     }
 }
 
@@ -130,7 +159,10 @@ impl fmt::Display for Tally {
         writeln!(f, "refusals  {}", refusals.join("  "))?;
         let at_spots = |rule: usize| self.rules[rule][..spots(rule)].iter().map(usize::to_string).collect::<Vec<_>>().join(" ");
         let rules: Vec<_> = (1..=7).map(|rule| format!("R{rule}: {}", at_spots(rule))).collect();
-        writeln!(f, "rules     {}  (at the first record, between, at the last)", rules.join("  "))?;
+        writeln!(f, "rules     {}  (at the first record, between, at the last; byte 1 of 0, beyond)", rules.join("  "))?;
+        let old: Vec<_> = (1..=7).map(|rule| format!("R{rule}: {}", self.old_rules[rule])).collect();
+        writeln!(f, "of old    {}", old.join("  "))?;
+        writeln!(f, "equals    an earlier one ready {}, and due a message {}", self.later_runs, self.earlier_due)?;
         writeln!(f, "most      {} tasks, {} messages in a queue", self.most_tasks, self.longest_queue)?;
         write!(f, "cases     {}", self.cases)
     }

@@ -31,10 +31,11 @@ pub fn status_of(board: &Board, k: TaskNo) -> Status {
 /// A call that tells only whether it was accepted, on a board in lent bytes.
 pub type Tried = fn(&mut Board<&mut [u8]>) -> Result<(), Refusal>;
 
-/// Making fresh, checking and each of the nineteen calls, with arguments that could do.
-pub const EVERY_CALL: [Tried; 21] = [
+/// Making fresh, checking, converting and each of the nineteen calls, with arguments that could do.
+pub const EVERY_CALL: [Tried; 22] = [
     |b| b.make_fresh().map(drop),
     |b| b.check().map(drop),
+    |b| b.convert().map(drop),
     |b| b.install(TaskNo(1), Status::TCBB, Prio::fifo(1), 0, 0).map(drop),
     |b| b.post_interrupt(TaskNo(1)).map(drop),
     |b| b.find(0).map(drop),
