@@ -14,3 +14,4 @@ pub mod Framing
 pub mod Framed
 pub mod Bodies
 pub mod Theorems
+pub mod WhoRuns

@@ -69,17 +69,25 @@ module _ (z : Size) (l : List ℕ) (call : Call) (a : Sizes z) (h : (i : ℕ) �
   abbrev d : Undispatched
   d = body z b (b .running) call
 
-  -- what dispatch makes of a call that no refusal stops
-  went : lowest (row z l b (b .running) call) ≡ Go → Handing z (orderAfter b (order z b) (touched b (b .running) call .move)) l d
-  went g =
+  abbrev orderThen : List ℕ
+  orderThen = orderAfter b (order z b) (touched b (b .running) call .move)
+
+  -- a call that no refusal stops leaves a board that is settled
+  pub settles : lowest (row z l b (b .running) call) ≡ Go → (queues : ℕ → List ℕ) × Settled z (d .board) orderThen queues
+  settles g =
       let long = go-passed (no1 z l) (no2 z b ∷ ownRow z b (b .running) call) g in
       let rules = go-passed (no2 z b) (ownRow z b (b .running) call) (long .1) in
       let f = fits-board z l (record { long = eqb-true _ _ (not-false _ (long .0)); bytes = h }) in
       let s = passing-sound z b a f (not-false (passes z b) (rules .0)) in
       let t = walked-settled z b a f (s .order) (s .queues) (sound-settled z b a f s) in
-      let move = touched b (b .running) call .move in
-      dispatched z (orderAfter b (order z b) move) l (queuesAfter b (s .queues) move) (d .value) (d .board) a
-      (body-settles z b (order z b) (s .queues) (b .running) call a w t (sound-awake z b a f s) (s .idle) (rules .1))
+      let move = touched b (b .running) call .move in (
+        queuesAfter b (s .queues) move,
+        body-settles z b (order z b) (s .queues) (b .running) call a w t (sound-awake z b a f s) (s .idle) (rules .1),
+      )
+
+  -- what dispatch makes of it
+  pub went : lowest (row z l b (b .running) call) ≡ Go → Handing z orderThen l d
+  went g = let (queues, s) = settles g in dispatched z orderThen l queues (d .value) (d .board) a s
 
   -- it is not refused
   accepted-number : (o : Outcome) (v c m : ℕ) (k : List ℕ) → o ≡ accepted v c m k → o .answer ≢ Refused NothingToDeliver

@@ -5,6 +5,11 @@
 --                       over changes only the task c that then runs, of its STAT MHBS alone, and the message that it is handed
 --   NeverStuck          refusal 15 is given on no board, whatever its bytes
 --   PassingStaysPassing a call on a board that passes leaves one that passes
+--   effected z l call   the board once the call has had its effect, before who runs is settled
+--   RightlyChosen       whoever an accepted call tells to run is in byte 1 afterwards, and is 0 exactly if after the effect no task is ready,
+--                       else a ready task of the smallest ready priority number
+--   EqualNeverPushes    where the task that ran is ready after the effect and no ready task has a smaller number, it runs on
+--   SmallerRunsAtOnce   where a ready task has a smaller number, one of the smallest runs
 --   EveryBlockOnce      after an accepted call, on whatever bytes, every block is free, held by one present task, or in one queue once
 -- Assumes nothing.
 use mathlib.Core.Path.{_≡_}
@@ -22,10 +27,11 @@ use Rattle.board.specs.Claims.{Bytes}
 use Rattle.paper.specs.declared.call.Call.{Call}
 use Rattle.paper.specs.declared.answer.Refusal.the-variants.{NothingToDeliver}
 use Rattle.paper.specs.declared.answer.Answer.the-variants.{Accepted, Refused}
-use Rattle.paper.specs.Rules.{queue, passes}
+use Rattle.paper.specs.Rules.{queue, taskNumber, ready, passes}
 use Rattle.paper.specs.Changes.{clears, takeFirst}
 use Rattle.paper.specs.Refusals.{ownRow, Go, lowest}
 use Rattle.paper.specs.Outcomes.{body, effect}
+use Rattle.linked.specs.Sound.{Leads, RunsRightly}
 use Rattle.linked.specs.Claims.{Whereabouts}
 use Rattle.kept.specs.Settled.{Settled, Awake, Fitting}
 use Rattle.kept.specs.Touched.{touched, orderAfter, queuesAfter, queueOf, relinks, Frame}
@@ -63,6 +69,27 @@ abbrev pub PassingStaysPassing : Type 0
 PassingStaysPassing =
     (z : Size) (l : List ℕ) (call : Call) → Sizes z → Bytes z l → Fitting call → passes z (boardOf z l) ≡ true
     → let o = effect z l call in Bytes z (o .after) × (passes z (boardOf z (o .after)) ≡ true)
+
+-- ---- who runs: document 02, Ask 3
+abbrev pub effected : Size → List ℕ → Call → Board
+effected z l call = let b = boardOf z l in body z b (b .running) call .board
+
+abbrev pub RightlyChosen : Type 0
+RightlyChosen =
+    (z : Size) (l : List ℕ) (call : Call) (v c m : ℕ) → Sizes z → ((i : ℕ) → Byte (getD l i 0)) → Fitting call
+    → let o = effect z l call in o .answer ≡ Accepted v c m
+    → RunsRightly (effected z l call) c × (boardOf z (o .after) .running ≡ c)
+
+abbrev pub EqualNeverPushes : Type 0
+EqualNeverPushes =
+    (z : Size) (l : List ℕ) (call : Call) (v c m : ℕ) → effect z l call .answer ≡ Accepted v c m
+    → let ran = boardOf z l .running in Leads (effected z l call) ran → c ≡ ran
+
+abbrev pub SmallerRunsAtOnce : Type 0
+SmallerRunsAtOnce =
+    (z : Size) (l : List ℕ) (call : Call) (v c m : ℕ) → Sizes z → ((i : ℕ) → Byte (getD l i 0)) → Fitting call
+    → effect z l call .answer ≡ Accepted v c m → let d = effected z l call in let ran = boardOf z l .running in
+    (k : ℕ) → ready d k ≡ true → taskNumber d k < taskNumber d ran → Leads d c × (c ≢ ran)
 
 -- ---- demand 2, its last sentence
 abbrev pub EveryBlockOnce : Type 0

@@ -22,8 +22,8 @@ use Rattle.paper.specs.Answers.{handed}
 use Rattle.paper.specs.Rules.{order, queue, firstReady, rule1, rules2to6, rule7, passes}
 use Rattle.paper.specs.Effects.{find}
 use Rattle.paper.specs.Refusals.{no1, Verdict, Go, Stop, lowest}
-use Rattle.paper.specs.Outcomes.{Outcome, judge, accepted}
-use Rattle.paper.specs.Conversion.{oldRule1, oldRule7, oldPasses, oldBroken, oldNo2, convert}
+use Rattle.paper.specs.Outcomes.{Outcome, judge}
+use Rattle.paper.specs.Conversion.{oldRule1, oldRule7, oldPasses, oldBroken, oldNo2, converted, convert}
 use Rattle.paper.proofs.Rows.{rules-kept}
 use Rattle.paper.proofs.Theorems.{accepted-passed}
 use Rattle.linked.specs.Claims.{ConvertedPasses, OnlyByte1}
@@ -49,13 +49,10 @@ module _ (z : Size) (l : List ℕ) where
       and-true (rule1 b && rules2to6 z b) (rule7 z (withRunning b c)) (and-true (rule1 b) (rules2to6 z b) (both (eqb (b .running) 0) (rule1 b) first .1) middle)
       (says-rule7 z (withRunning b c) (length-tasks z l) .1 (right, not-true (has (task b c .stat) MHBS) due))
 
-  abbrev done : Outcome
-  done = accepted 0 c 0 (putRunning l c)
-
 pub converted-passes : ConvertedPasses
 converted-passes z l v c m e =
     let (long, old) = accepted-passed z l .2 v c m e in
-    let o : Outcome = done z l in
+    let o : Outcome = converted z l in
     let is : convert z l ≡ o = ap (λ (v : Verdict). judge l v o) (rules-kept z l (oldBroken z (boardOf z l)) (oldPasses z (boardOf z l)) [] long old) in
     let d : boardOf z (convert z l .after) ≡ withRunning (boardOf z l) (firstReady z (boardOf z l)) =
     ap (λ (x : Outcome). boardOf z (x .after)) is ∙ converted-board z l long in (
@@ -76,9 +73,9 @@ only-byte-1 z l = step (lowest (no1 z l ∷ oldNo2 z (boardOf z l) ∷ [])) refl
         × ((name : ℕ) → find z (boardOf z (o .after)) name ≡ find z b name)
 
     long : lowest (no1 z l ∷ oldNo2 z b ∷ []) ≡ Go → length l ≡ total z
-    long g = accepted-passed z l .2 0 _ 0 (ap (λ (v : Verdict). judge l v (done z l) .answer) g) .0
+    long g = accepted-passed z l .2 0 _ 0 (ap (λ (v : Verdict). judge l v (converted z l) .answer) g) .0
 
-    step : (v : Verdict) → lowest (no1 z l ∷ oldNo2 z b ∷ []) ≡ v → Kept (judge l v (done z l))
+    step : (v : Verdict) → lowest (no1 z l ∷ oldNo2 z b ∷ []) ≡ v → Kept (judge l v (converted z l))
     step Go g = let e = converted-board z l (long g) in (
       length-set l 1 (firstReady z b),
       (λ i n. getD-set-other l 1 i (firstReady z b) 0 n),

@@ -1,6 +1,7 @@
 pub mod Slips
 pub mod NamedCases
 mod Served
+mod Samplers
 pub mod Rows
 pub mod Which
 pub mod Theorems

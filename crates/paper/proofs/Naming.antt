@@ -23,7 +23,6 @@ use Rattle.board.specs.Records.{noTask}
 use Rattle.board.specs.Status.{MHBS, has}
 use Rattle.board.specs.Places.{isQueuedAt}
 use Rattle.board.specs.Board.{Board, total, boardOf, task, place}
-use Rattle.board.specs.Writes.{putRunning}
 use Rattle.board.proofs.Codec.{length-tasks}
 use Rattle.paper.specs.declared.answer.Rule.{Rule}
 use Rattle.paper.specs.declared.answer.Rule.the-variants.{R1, R2, R3, R4, R5, R6, R7}
@@ -32,12 +31,12 @@ use Rattle.paper.specs.declared.answer.Refusal.the-variants.{RuleBroken}
 use Rattle.paper.specs.declared.answer.Answer.{Answer}
 use Rattle.paper.specs.declared.answer.Answer.the-variants.{Accepted, Refused}
 use Rattle.paper.specs.Answers.{ruleNumber, recordNumber, told, numberOf, handed}
-use Rattle.paper.specs.Rules.{nextMessage, messageNumber, queue, firstReady, rules2to6, passes}
+use Rattle.paper.specs.Rules.{nextMessage, messageNumber, queue, rules2to6, passes}
 use Rattle.paper.specs.Rules.{rule2At, rule3, rule4At, rule5At, rule6At}
 use Rattle.paper.specs.Named.{unless, broken2to6, brokenRule}
 use Rattle.paper.specs.Refusals.{Test, no1, no2By, ownRow, Verdict, lowest}
 use Rattle.paper.specs.Outcomes.{Outcome, accepted, judge, dispatch, body}
-use Rattle.paper.specs.Conversion.{oldPasses, oldBroken}
+use Rattle.paper.specs.Conversion.{oldPasses, oldBroken, converted}
 use Rattle.paper.specs.Claims.{Given, Names, VerdictStays, Ends1And7, today, old, BrokenAt, NoLater, Lowest, LowestIsNamed}
 use Rattle.paper.specs.Claims.{Fault, NoEnd, Meets, Misses, Falls, WrongQueue, RuleOnlyWith2}
 use Rattle.paper.proofs.Rows.{rules-kept, rule-broken}
@@ -88,7 +87,7 @@ verdict-stays z l =
     let (calls, checks, freshes, converts) = lowest-is-given z l in (
       (λ call. names z l (brokenRule z b) (passes z b) (ownRow z b c call) (row-ascends z l b c call) (dispatch z l (body z b c call)) (calls call)),
       names z l (brokenRule z b) (passes z b) [] refl (accepted 0 c 0 l) checks,
-      names z l (oldBroken z b) (oldPasses z b) [] refl (accepted 0 _ 0 (putRunning l (firstReady z b))) converts,
+      names z l (oldBroken z b) (oldPasses z b) [] refl (converted z l) converts,
       λ long sound. ap (λ (v : Verdict). judge l v (accepted 0 c 0 l) .answer) (rules-kept z l (brokenRule z b) (passes z b) [] long sound),
     )
 

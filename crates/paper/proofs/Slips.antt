@@ -26,7 +26,7 @@ tiny = record { tasks = 3; messages = 4 }
 abbrev pub answersTo : List Call → List Answer
 answersTo calls = run tiny (blank tiny) calls .answers
 
-abbrev after : List Call → List ℕ
+abbrev pub after : List Call → List ℕ
 after calls = run tiny (blank tiny) calls .after
 
 abbrev queueAfter : List Call → ℕ → List ℕ

@@ -14,7 +14,6 @@ use Rattle.board.specs.declared.numbers.Size.{Size}
 use Rattle.board.specs.Numbers.{taskNo, msgNo}
 use Rattle.board.specs.Status.{MHBS, has}
 use Rattle.board.specs.Board.{Board, boardOf, bytesOf, task}
-use Rattle.board.specs.Writes.{putRunning}
 use Rattle.paper.specs.declared.call.Call.{Call}
 use Rattle.paper.specs.declared.call.Call.the-variants.{Find}
 use Rattle.paper.specs.Arguments.{callsOf, argumentsOf}
@@ -27,11 +26,11 @@ use Rattle.paper.specs.declared.answer.Refusal.the-variants.{NotItsSende
 use Rattle.paper.specs.declared.answer.Answer.{Answer}
 use Rattle.paper.specs.declared.answer.Answer.the-variants.{Accepted, Refused}
 use Rattle.paper.specs.Answers.{ruleNumber, recordNumber, Told, told, numberOf, Handed, handed}
-use Rattle.paper.specs.Rules.{emptyQueue, firstReady, runsNext, passes}
+use Rattle.paper.specs.Rules.{emptyQueue, runsNext, passes}
 use Rattle.paper.specs.Named.{brokenRule}
 use Rattle.paper.specs.Refusals.{Test, no1, no2By, no2, ownRow, row, Verdict, Go, Stop, lowest}
 use Rattle.paper.specs.Outcomes.{Outcome, Undispatched, accepted, refused, judge, deliver, dispatchTo, dispatch, body, blank, effect, check}
-use Rattle.paper.specs.Conversion.{oldPasses, oldBroken, oldNo2, convert}
+use Rattle.paper.specs.Conversion.{oldPasses, oldBroken, oldNo2, converted, convert}
 use Rattle.paper.specs.Claims.{NoSecondOutcome, Unchanged, RefusalChangesNothing, Only, AcceptedPassed, Given, LowestIsGiven, HandedTells}
 use Rattle.paper.specs.Claims.{FreshInstallAccepted, AnswersDiffer, InstallWrites}
 
@@ -65,7 +64,7 @@ refusal-changes-nothing z l = let b = boardOf z l in let c = b .running in (
       (unchanged-dispatch z l _ (runsNext z (body z b c call .board)))),
   unchanged-judge l (lowest (no1 z l ∷ no2 z b ∷ [])) (accepted 0 c 0 l) (unchanged-accepted 0 c 0 l l),
   unchanged-judge l (lowest (no1 z l ∷ [])) (accepted 0 0 0 (blank z)) (unchanged-accepted 0 0 0 l (blank z)),
-  unchanged-judge l (lowest (no1 z l ∷ oldNo2 z b ∷ [])) (accepted 0 _ 0 (putRunning l _)) (unchanged-accepted 0 _ 0 l (putRunning l (firstReady z b))),
+  unchanged-judge l (lowest (no1 z l ∷ oldNo2 z b ∷ [])) (converted z l) (unchanged-accepted _ _ _ l _),
 )
 
 -- ---- the lowest is given
@@ -177,7 +176,7 @@ lowest-is-given z l = let b = boardOf z l in let c = b .running in (
       (given-dispatched (row z l b c call) z l _ (runsNext z (d .board)))),
   given-judged (no1 z l ∷ no2 z b ∷ []) refl l (accepted 0 c 0 l) (λ h. h),
   given-judged (no1 z l ∷ []) refl l (accepted 0 0 0 (blank z)) (λ h. h),
-  given-judged (no1 z l ∷ oldNo2 z b ∷ []) refl l (accepted 0 (firstReady z b) 0 (putRunning l (firstReady z b))) (λ h. h),
+  given-judged (no1 z l ∷ oldNo2 z b ∷ []) refl l (converted z l) (λ h. h),
 )
 
 -- ---- accepted means that the board passed: 1 and 2 did not apply

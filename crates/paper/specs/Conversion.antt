@@ -37,6 +37,8 @@ abbrev pub oldNo2 : Size → Board → Test
 oldNo2 z b = no2By (oldBroken z b) (oldPasses z b)
 
 -- ---- the conversion
+abbrev pub converted : Size → List ℕ → Outcome
+converted z l = let c = firstReady z (boardOf z l) in accepted 0 c 0 (putRunning l c)
+
 abbrev pub convert : Size → List ℕ → Outcome
-convert z l = let b = boardOf z l in let c = firstReady z b in
-    judge l (lowest (no1 z l ∷ oldNo2 z b ∷ [])) (accepted 0 c 0 (putRunning l c))
+convert z l = judge l (lowest (no1 z l ∷ oldNo2 z (boardOf z l) ∷ [])) (converted z l)

@@ -1,7 +1,7 @@
 // PROGRAM. Cases from standard input, one after the other: the length of the board as a word, a call of nine bytes (kind, three words, STAT,
-// PRIO; kind 0 checks the board, kind 254 makes it fresh), and the board. For each it writes a line: refusal number, value, running,
-// delivered, broken rule and its record, and then each byte of the board that changed, as place=value. So any other maker's answers can be
-// compared with ours as text.
+// PRIO; kind 0 checks the board, kind 254 makes it fresh, kind 253 converts an old one), and the board. For each it writes a line: refusal
+// number, value, running, delivered, broken rule and its record, and then each byte of the board that changed, as place=value. So any other
+// maker's answers can be compared with ours as text.
 ghost use Prim.Native.Nat.{_<_};
 use for_c::asked::Asked;
 use for_c::asked::call_of_kind;
@@ -108,6 +108,10 @@ fn answer_to(kind: u8, asked: Asked, board: &mut [u8]) {
     }
     if kind == 254 {
         print_answer(station::fresh(board));
+        return;
+    }
+    if kind == 253 {
+        print_answer(station::convert(board));
         return;
     }
     let Asked::Made(call) = asked else {

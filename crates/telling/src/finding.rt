@@ -1,8 +1,9 @@
-// What the check says of a board, in one line of words that names the broken rule and the record.
+// What the check says of a board, or the conversion of an old one, in one line of words that names the broken rule and the record.
 ghost use mathlib.Core.Path.{_≡_};
 ghost use lib.Dec.{ltb};
 ghost use Rattle.board.specs.Numbers.{small};
 ghost use Rattle.paper.specs.Outcomes.{Outcome, check};
+ghost use Rattle.paper.specs.Conversion.{convert};
 ghost use Rattle.telling.specs.Findings.{findingOf};
 use crate::print::decimal;
 use crate::print::text;
@@ -12,7 +13,9 @@ use for_c::pack::rule_number;
 use paper::answer::Answer;
 use paper::answer::Refusal;
 use paper::answer::Rule;
+use rules::Edition;
 use station::check;
+use station::convert;
 
 // The board passes and this task runs, 0 for none; or it is refused.
 pub enum Finding {
@@ -53,19 +56,37 @@ fn tell_length(n: usize) {
     text(b"; a board is 1,476");
 }
 
-// What is wrong with the record of this number.
+// What is wrong, with the number of the record between the words, or with byte 1.
 fn tell_record(before: &[u8], n: u16, behind: &[u8]) {
     text(before);
     decimal(n as u64);
     text(behind);
 }
 
-// A rule of document 01 as the record n breaks it.
-fn tell_fault(r: Rule, n: u16) {
-    match r {
-        Rule::R1 => {
+// R1, of today or of old boards.
+fn tell_rule1(edition: Edition) {
+    match edition {
+        Edition::Today => {
+            text(b"bytes 2 and 3 are not zero");
+        }
+        Edition::Old => {
             text(b"bytes 1 to 3 are not zero");
         }
+    }
+}
+
+// R7: what byte 1 is, or the task that ran on an old board.
+fn tell_rule7(edition: Edition, n: u16) {
+    match edition {
+        Edition::Today => tell_record(b"byte 1 is ", n, b", and names no task that may run"),
+        Edition::Old => tell_record(b"the running task ", n, b" is still due a message (MHBS)"),
+    }
+}
+
+// A rule of document 01, as it is in this edition and as the record n breaks it.
+fn tell_fault(edition: Edition, r: Rule, n: u16) {
+    match r {
+        Rule::R1 => tell_rule1(edition),
         Rule::R2(_) => tell_record(
             b"the record of task ",
             n,
@@ -85,40 +106,39 @@ fn tell_fault(r: Rule, n: u16) {
             n,
             b" do not go together, or not with its queue",
         ),
-        Rule::R7(_) => tell_record(b"the running task ", n, b" is still due a message (MHBS)"),
+        Rule::R7(_) => tell_rule7(edition, n),
     }
 }
 
-fn tell_rule(r: Rule) {
+fn tell_rule(edition: Edition, r: Rule) {
     text(b"rule ");
     decimal(rule_number(r) as u64);
     text(b": ");
-    tell_fault(r, record_number(r));
+    tell_fault(edition, r, record_number(r));
 }
 
-// The check gives two refusals only: the length is wrong, or a rule is broken.
-fn tell_reason(q: Refusal, n: usize) {
+// The check and the conversion give two refusals only: the length is wrong, or a rule is broken.
+fn tell_reason(edition: Edition, q: Refusal, n: usize) {
     if let Refusal::RuleBroken(r) = q {
-        tell_rule(r);
+        tell_rule(edition, r);
         return;
     }
     tell_length(n);
 }
 
-// The refusal of a board of n bytes.
-fn tell_refusal(q: Refusal, n: usize) {
+// The refusal of a board of n bytes by the rules of this edition.
+fn tell_refusal(edition: Edition, q: Refusal, n: usize) {
     text(b"refused (");
     decimal(refusal_number(q) as u64);
     text(b"): ");
-    tell_reason(q, n);
+    tell_reason(edition, q, n);
     text(b"\n");
 }
 
-// The board is checked; a refusal is told in its line.
-pub fn judged(l: &[u8]) -> Finding
-    ensures { λ res. ⌜ res ≡ findingOf (check small (now (l .entry)) .answer) ⌝ }
+// What was answered of a board of n bytes by the rules of this edition; a refusal is told in its line.
+fn found(edition: Edition, a: Answer, n: usize) -> Finding
+    ensures { λ res. ⌜ res ≡ findingOf a ⌝ }
 {
-    let a = check(l);
     match a {
         Answer::Accepted {
             value: _,
@@ -126,10 +146,26 @@ pub fn judged(l: &[u8]) -> Finding
             delivered: _,
         } => Finding::Passes(running),
         Answer::Refused(q) => {
-            tell_refusal(q, l.len());
+            tell_refusal(edition, q, n);
             Finding::Refused(q)
         }
     }
+}
+
+// The board is checked.
+pub fn judged(l: &[u8]) -> Finding
+    ensures { λ res. ⌜ res ≡ findingOf (check small (now (l .entry)) .answer) ⌝ }
+{
+    let a = check(l);
+    found(Edition::Today, a, l.len())
+}
+
+// An old board is converted where it lies.
+pub fn converted(l: &mut [u8]) -> Finding
+    ensures { λ res. ⌜ (res ≡ findingOf (convert small (now (l .entry)) .answer)) × (now (l .exit) ≡ convert small (now (l .entry)) .after) ⌝ }
+{
+    let a = convert(l);
+    found(Edition::Old, a, l.len())
 }
 
 // Who runs, 0 for none; true if one does.
