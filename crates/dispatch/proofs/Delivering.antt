@@ -19,14 +19,13 @@ use Rattle.board.specs.Board.{Board, boardOf, task}
 use Rattle.board.specs.Writes.{putRunning}
 use Rattle.board.proofs.Codec.{length-tasks}
 use Rattle.board.proofs.Meant.{messageMeant-message, messageMeant-none}
-use Rattle.paper.specs.declared.answer.Refusal.{Refusal}
 use Rattle.paper.specs.declared.answer.Refusal.the-variants.{NothingToDeliver}
 use Rattle.paper.specs.declared.answer.Answer.{Answer}
 use Rattle.paper.specs.declared.answer.Answer.the-variants.{Accepted, Refused}
 use Rattle.paper.specs.Rules.{taskNumber, ready, outranks, firstReady}
 use Rattle.paper.specs.Outcomes.{Outcome, Ends}
 use Rattle.stores.specs.declared.Body.{Body}
-use Rattle.stores.specs.declared.Body.the-variants.{Done, Stopped}
+use Rattle.stores.specs.declared.Body.the-variants.{Done}
 use Rattle.stores.specs.Changes.{clears, withMptr, hold}
 use Rattle.stores.specs.Moves.{messageBehind}
 use Rattle.stores.specs.Effects.{takeFirst}

@@ -4,7 +4,7 @@
 use mathlib.Core.Path.{_≡_, refl, sym, ap, _∙_, subst}
 use mathlib.Core.Logic.{_≢_, inl}
 use mathlib.Core.Bool.{Bool, true, false, true≢false}
-use mathlib.Core.List.{List, [], _∷_}
+use mathlib.Core.List.{List}
 use Prim.Native.Nat.{ℕ}
 use native.Mathlib.Omega.{arith}
 use native.Mathlib.Decide.{ℕ-discrete}
@@ -14,8 +14,6 @@ use Rattle.links.proofs.Members.{isIn-in}
 use Rattle.board.specs.declared.numbers.Size.{Size}
 use Rattle.board.specs.declared.status.Status.{Status}
 use Rattle.board.specs.declared.records.Task.{Task}
-use Rattle.board.specs.declared.places.Place.{Place}
-use Rattle.board.specs.declared.places.Place.the-variants.{Free, HeldBy, QueuedAt, Nowhere}
 use Rattle.board.specs.Status.{WAIT, IWAT, MHBS, TCBB, has, withoutBit, isReady, number}
 use Rattle.board.specs.Records.{Byte}
 use Rattle.board.specs.Board.{Board, bytesOf, task, place, withRunning}
@@ -25,13 +23,13 @@ use Rattle.paper.specs.Rules as rules
 use Rattle.paper.specs.Changes.{clears, takeFirst}
 use Rattle.paper.specs.Outcomes.{accepted, Undispatched, undispatched, dispatch}
 use Rattle.linked.specs.Linked.{Listing}
-use Rattle.linked.specs.Sound.{PlaceGood, RunsRightly}
+use Rattle.linked.specs.Sound.{RunsRightly}
 use Rattle.linked.proofs.Running.{present-numbered, ready-says}
 use Rattle.linked.proofs.Chosen.{ready-numbered, next-runs, runs-alike}
 use Rattle.kept.specs.Settled.{Settled}
-use Rattle.kept.specs.Touched.{everyBit, changed, Frame}
+use Rattle.kept.specs.Touched.{everyBit, changed}
 use Rattle.kept.specs.Claims.{Sizes, DispatchFrame}
-use Rattle.kept.proofs.Reading.{task-put, task-alike, order-walked}
+use Rattle.kept.proofs.Reading.{task-put, task-alike, good-stays, order-walked}
 use Rattle.kept.proofs.Taking.{take-stat, due-queued, deliver-settled}
 use Rattle.kept.proofs.Framing.{frame-then, frame-clear}
 use Rattle.kept.proofs.Framed.{frame-take}
@@ -42,12 +40,6 @@ dispatch-frame z b c =
     frame-then (frame-take z b c) (frame-clear (takeFirst z b c) c MHBS (inl refl) (isIn-in MHBS everyBit refl, inl refl))
 
 -- ---- byte 1 written
-place-running : (z : Size) (b : Board) (c m : ℕ) (p : Place) → PlaceGood z b m p → PlaceGood z (withRunning b c) m p
-place-running z b c m Free h = h
-place-running z b c m (HeldBy k) h = h
-place-running z b c m (QueuedAt k) h = h
-place-running z b c m (Nowhere p) h = h
-
 -- nothing else of a board that is settled looks at it
 pub settled-running : (z : Size) (b : Board) (order : List ℕ) (queues : ℕ → List ℕ) (c : ℕ) → Byte c → Settled z b order queues
     → Settled z (withRunning b c) order queues
@@ -67,7 +59,7 @@ settled-running z b order queues c h s = let f = s .fits in let r = s .regular i
     zeros = r .zeros;
     records = r .records;
     linked = record { tasks = r .linked .tasks; messages = r .linked .messages };
-    places = λ m n. place-running z b c m (place b m) (r .places m n);
+    places = λ m n. good-stays z b (withRunning b c) m (place b m) refl (λ k i t. t) (r .places m n);
   };
   flags = s .flags;
 }

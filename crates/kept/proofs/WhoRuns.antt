@@ -4,13 +4,11 @@ use mathlib.Core.Path.{_≡_, refl, sym, ap, _∙_, subst}
 use mathlib.Core.Logic.{_≢_}
 use mathlib.Core.Bool.{Bool, true, cond, true≢false}
 use mathlib.Core.List.{List}
-use Prim.Native.Nat.{ℕ, _≤_, _<_}
+use Prim.Native.Nat.{ℕ, _≤_}
 use native.Mathlib.Omega.{arith}
-use lib.ListN.{getD}
 use Rattle.links.proofs.Bools.{cond-holds}
 use Rattle.board.specs.declared.numbers.Size.{Size}
 use Rattle.board.specs.Status.{MHBS, has}
-use Rattle.board.specs.Records.{Byte}
 use Rattle.board.specs.Board.{Board, boardOf, bytesOf, task, withRunning}
 use Rattle.paper.specs.declared.call.Call.{Call}
 use Rattle.paper.specs.declared.answer.Refusal.{Refusal}
@@ -22,10 +20,9 @@ use Rattle.paper.specs.Rules.{taskNumber, emptyQueue, mayRun, firstReady, runsN
 use Rattle.paper.specs.Refusals.{row, Verdict, Go, Stop, lowest}
 use Rattle.paper.specs.Outcomes.{Outcome, Undispatched, undispatched, judge, accepted, body, deliver, dispatchTo, dispatch, effect}
 use Rattle.paper.proofs.Theorems.{refusal-number}
-use Rattle.linked.specs.Sound.{Leads, RunsRightly}
+use Rattle.linked.specs.Sound.{RunsRightly}
 use Rattle.linked.proofs.Chosen.{leads-may}
-use Rattle.kept.specs.Settled.{Fitting}
-use Rattle.kept.specs.Claims.{Sizes, effected, RightlyChosen, EqualNeverPushes, SmallerRunsAtOnce}
+use Rattle.kept.specs.Claims.{effected, RightlyChosen, EqualNeverPushes, SmallerRunsAtOnce}
 use Rattle.kept.proofs.Fitting.{board-bytes}
 use Rattle.kept.proofs.Bodies.{body-frame}
 use Rattle.kept.proofs.Dispatching.{next-rightly}

@@ -13,7 +13,6 @@ use Rattle.links.specs.Chain.{In, Out, Sorted}
 use Rattle.links.proofs.Bools.{both}
 use Rattle.links.proofs.Members.{all-at}
 use Rattle.links.proofs.Exactly.{in-which}
-use Rattle.board.specs.declared.numbers.Size.{Size}
 use Rattle.board.specs.declared.status.Status.{Status}
 use Rattle.board.specs.declared.places.Place.the-variants.{Free}
 use Rattle.board.specs.Numbers.{Numbered}

@@ -19,11 +19,8 @@ use Rattle.links.proofs.Listed.{lists-parts, lists-fails}
 use Rattle.board.specs.declared.numbers.Size.{Size}
 use Rattle.board.specs.declared.places.Place.the-variants.{Free}
 use Rattle.board.specs.Numbers.{Numbered}
-use Rattle.board.specs.Records.{noTask}
-use Rattle.board.specs.Status.{MHBS, has}
 use Rattle.board.specs.Places.{isQueuedAt}
 use Rattle.board.specs.Board.{Board, total, boardOf, task, place}
-use Rattle.board.proofs.Codec.{length-tasks}
 use Rattle.paper.specs.declared.answer.Rule.{Rule}
 use Rattle.paper.specs.declared.answer.Rule.the-variants.{R1, R2, R3, R4, R5, R6, R7}
 use Rattle.paper.specs.declared.answer.Refusal.{Refusal}
@@ -37,11 +34,11 @@ use Rattle.paper.specs.Named.{unless, broken2to6, brokenRule}
 use Rattle.paper.specs.Refusals.{Test, no1, no2By, ownRow, Verdict, lowest}
 use Rattle.paper.specs.Outcomes.{Outcome, accepted, judge, dispatch, body}
 use Rattle.paper.specs.Conversion.{oldPasses, oldBroken, converted}
-use Rattle.paper.specs.Claims.{Given, Names, VerdictStays, Ends1And7, today, old, BrokenAt, NoLater, Lowest, LowestIsNamed}
+use Rattle.paper.specs.Claims.{Given, Names, VerdictStays, Edition, today, old, BrokenAt, NoLater, Lowest, LowestIsNamed}
 use Rattle.paper.specs.Claims.{Fault, NoEnd, Meets, Misses, Falls, WrongQueue, RuleOnlyWith2}
 use Rattle.paper.proofs.Rows.{rules-kept, rule-broken}
 use Rattle.paper.proofs.Theorems.{ascends, in-above, row-ascends, lowest-is-given, ruleAt, at-rule, number-2, others-told}
-use Rattle.paper.proofs.Which.{nth-numbered, which-nth}
+use Rattle.paper.proofs.Which.{which-nth}
 
 -- ---- 2 is given where the length is right and a rule is broken, and nowhere else
 module _ (z : Size) (l : List ℕ) (r : Rule) (passed : Bool) (tests : List Test) where
@@ -102,7 +99,7 @@ rule-number (R5 k) = (lit≤ tt, lit≤ tt)
 rule-number (R6 k) = (lit≤ tt, lit≤ tt)
 rule-number (R7 c) = (lit≤ tt, lit≤ tt)
 
-module _ (by : Ends1And7) (z : Size) (b : Board) where
+module _ (by : Edition) (z : Size) (b : Board) where
   -- the rules as tests, by their numbers
   abbrev rule : ℕ → Bool
   rule i =
@@ -167,7 +164,7 @@ in-a-row true false d e f r s t u v w = refl
 in-a-row false c d e f r s t u v w = refl
 
 -- R1 and R7 by the rules of today or by the old ones
-named : (by : Ends1And7) (z : Size) (b : Board) → by .first && rules2to6 z b && by .last ≡ false
+named : (by : Edition) (z : Size) (b : Board) → by .first && rules2to6 z b && by .last ≡ false
     → Lowest by z b (unless (by .first) R1 (unless (rules2to6 z b) (broken2to6 z b) (R7 (by .told))))
 named by z b broken =
     let r2 = each (rule2At b) (z .tasks) in

@@ -13,7 +13,7 @@ use Rattle.paper.specs.declared.answer.Answer.the-variants.{Accepted, Re
 use Rattle.paper.specs.declared.answer.Rule.the-variants.{R1, R7}
 use Rattle.paper.specs.declared.answer.Refusal.the-variants.{RuleBroken, NobodyRuns}
 use Rattle.paper.specs.Changes.{sets}
-use Rattle.paper.specs.Outcomes.{Outcome, accepted, refused, check}
+use Rattle.paper.specs.Outcomes.{accepted, refused, check}
 use Rattle.paper.specs.Conversion.{convert}
 use Rattle.paper.proofs.Slips.{tiny, answersTo, after, twoQueues}
 

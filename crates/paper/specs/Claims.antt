@@ -96,19 +96,19 @@ VerdictStays =
     × Names z l (oldBroken z b) (oldPasses z b) (convert z l .answer)
     × (length l ≡ total z → passes z b ≡ true → check z l .answer ≡ Accepted 0 (b .running) 0)
 
--- what R1 and R7 say, and the record that R7 is told with: by the rules of today, and by the old ones
-pub record Ends1And7 : Type 0 where
+-- R1 and R7 and the record that R7 is told with, in an edition of the rules: today's, and the old one of saved boards
+pub record Edition : Type 0 where
   pub first : Bool
   pub last : Bool
   pub told : ℕ
 
-abbrev pub today : Size → Board → Ends1And7
+abbrev pub today : Size → Board → Edition
 today z b = record { first = rule1 b; last = rule7 z b; told = b .running }
 
-abbrev pub old : Size → Board → Ends1And7
+abbrev pub old : Size → Board → Edition
 old z b = record { first = oldRule1 b; last = oldRule7 z b; told = firstReady z b }
 
-abbrev pub BrokenAt : Ends1And7 → Size → Board → Rule → Type 0
+abbrev pub BrokenAt : Edition → Size → Board → Rule → Type 0
 BrokenAt by z b R1 = by .first ≡ false
 BrokenAt by z b (R2 k) = Numbered (z .tasks) (k .0) × (rule2At b (k .0) ≡ false)
 BrokenAt by z b R3 = rule3 z b ≡ false
@@ -120,7 +120,7 @@ BrokenAt by z b (R7 c) = (c ≡ by .told) × (by .last ≡ false)
 abbrev pub NoLater : Rule → Rule → Type 0
 NoLater r s = (ruleNumber r < ruleNumber s) ⊎ ((ruleNumber r ≡ ruleNumber s) × (recordNumber r ≤ recordNumber s))
 
-abbrev pub Lowest : Ends1And7 → Size → Board → Rule → Type 0
+abbrev pub Lowest : Edition → Size → Board → Rule → Type 0
 Lowest by z b r = BrokenAt by z b r × ((s : Rule) → BrokenAt by z b s → NoLater r s)
 
 abbrev pub LowestIsNamed : Type 0

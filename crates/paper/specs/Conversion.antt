@@ -9,10 +9,10 @@ use mathlib.Core.Bool.{Bool, not, _&&_}
 use mathlib.Core.List.{List, [], _∷_}
 use Prim.Native.Nat.{ℕ}
 use lib.Dec.{eqb}
+use lib.ListN.{set}
 use Rattle.board.specs.declared.numbers.Size.{Size}
 use Rattle.board.specs.Status.{MHBS, has}
 use Rattle.board.specs.Board.{Board, boardOf, task}
-use Rattle.board.specs.Writes.{putRunning}
 use Rattle.paper.specs.declared.answer.Rule.{Rule}
 use Rattle.paper.specs.declared.answer.Rule.the-variants.{R1, R7}
 use Rattle.paper.specs.Rules.{firstReady, rule1, rules2to6}
@@ -37,8 +37,9 @@ abbrev pub oldNo2 : Size → Board → Test
 oldNo2 z b = no2By (oldBroken z b) (oldPasses z b)
 
 -- ---- the conversion
+-- byte 1 written
 abbrev pub converted : Size → List ℕ → Outcome
-converted z l = let c = firstReady z (boardOf z l) in accepted 0 c 0 (putRunning l c)
+converted z l = let c = firstReady z (boardOf z l) in accepted 0 c 0 (set l 1 c)
 
 abbrev pub convert : Size → List ℕ → Outcome
 convert z l = judge l (lowest (no1 z l ∷ oldNo2 z (boardOf z l) ∷ [])) (converted z l)

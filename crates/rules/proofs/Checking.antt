@@ -1,10 +1,9 @@
 -- R2 to R6 together: the first rule that fails is the one that is named, and where all hold R3's walk met the first ready task.
 -- Assumes nothing.
 use mathlib.Core.Path.{_≡_, refl, sym, ap, _∙_}
-use mathlib.Core.Bool.{Bool, true, false, cond, not, true≢false}
+use mathlib.Core.Bool.{Bool, true, false, cond, not}
 use mathlib.Core.List.{List}
 use Prim.Native.Nat.{ℕ}
-use native.Mathlib.Omega.{arith}
 use Rattle.links.specs.Queue.{each, smallestFailing}
 use Rattle.links.proofs.Bools.{cond-holds}
 use Rattle.links.proofs.Smallest.{smallest-none}
@@ -14,21 +13,15 @@ use Rattle.board.specs.declared.numbers.MsgNo.{MsgNo}
 use Rattle.board.specs.declared.numbers.TaskMeant.{TaskMeant}
 use Rattle.board.specs.declared.numbers.TaskMeant.the-variants.{Task, NoTask}
 use Rattle.board.specs.declared.numbers.MessageMeant.the-variants.{Message, NoMessage}
-use Rattle.board.specs.declared.records.Task as board
-use Rattle.board.specs.Numbers.{outside, taskNo, msgNo, taskMeant, messageMeant}
-use Rattle.board.specs.Status.{MHBS, has}
-use Rattle.board.specs.Records.{noTask}
-use Rattle.board.specs.Board.{Board, boardOf, task}
-use Rattle.board.proofs.Pieces.{nth-outside}
-use Rattle.board.proofs.Codec.{length-tasks}
-use Rattle.board.proofs.Meant.{taskMeant-task, taskMeant-none}
+use Rattle.board.specs.Numbers.{taskNo, msgNo, taskMeant, messageMeant}
+use Rattle.board.specs.Board.{Board, boardOf}
 use Rattle.paper.specs.declared.answer.Rule.the-variants.{R2, R3, R4, R5, R6}
 use Rattle.paper.specs.Rules.{present, firstReady, rule2At, rule3, rule4At, rule5At, rule6At}
 use Rattle.order_rules.specs.declared.tasks.Order.{Order}
 use Rattle.order_rules.specs.declared.tasks.Order.the-variants as order
 use Rattle.order_rules.specs.Order.{orderFrom, listedBy}
 use Rattle.order_rules.proofs.OrderTurns.{listed, order-counted}
-use Rattle.queue_rules.specs.Walks.{counted, queued, walked, saw, breaking}
+use Rattle.queue_rules.specs.Walks.{queued, walked, saw, breaking}
 use Rattle.queue_rules.proofs.Lists.{rule5-counted}
 use Rattle.queue_rules.proofs.Breaking.{breaking-none, breaking-task, breaking-nobody, breaking-message, breaking-nothing}
 use Rattle.rules.specs.declared.records.Tasks.{Tasks}

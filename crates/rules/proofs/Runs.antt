@@ -11,8 +11,6 @@ use native.Mathlib.Decide.{ℕ-discrete}
 use lib.Dec.{eqb, ltb}
 use lib.ListN.{getD, take, drop}
 use borrow.Author.Tests.{eq-eqb, ne-eqb, lt-ltb, le-ltb, not-true, not-false}
-use Rattle.links.specs.Queue.{each}
-use Rattle.links.proofs.Bools.{both}
 use Rattle.board.specs.declared.numbers.Size.{Size}
 use Rattle.board.specs.declared.numbers.TaskNo.{TaskNo}
 use Rattle.board.specs.declared.numbers.TaskMeant.{TaskMeant}
@@ -26,7 +24,7 @@ use Rattle.board.proofs.Pieces.{nth-outside, within-outside}
 use Rattle.board.proofs.Codec.{length-tasks}
 use Rattle.paper.specs.declared.answer.Rule.{Rule}
 use Rattle.paper.specs.declared.answer.Rule.the-variants.{R1, R7}
-use Rattle.paper.specs.Rules.{ready, taskNumber, firstReady, allZero, rule1, rule2At, rule3, rule4At, rule5At, rule6At, rules2to6, rule7}
+use Rattle.paper.specs.Rules.{taskNumber, firstReady, allZero, rules2to6, rule7}
 use Rattle.paper.specs.Named.{broken2to6}
 use Rattle.linked.proofs.Chosen.{rules3, first-numbered, first-meant, tasks-listed, rule7-first}
 use Rattle.rules.specs.declared.Between.{Between}

@@ -47,7 +47,7 @@ fn show_number(w: u16) {
     decimal_in(w as u64, 7);
 }
 
-// R1 and R3, which name no record, are of these bytes.
+// R1 and R3, which name no record, are of these bytes, and R7, whose byte 1 may name no task.
 fn show_first_bytes(l: &[u8], marked: bool) {
     start(marked);
     text(b" first task of the task queue (byte 0): ");
@@ -188,11 +188,19 @@ fn show_messages(l: &[u8], marked: u16)
     }
 }
 
+// The number of the record that breaks the rule, 0 where bytes 0 to 3 do.
+fn marked_by(r: Rule) -> u16 {
+    if let Rule::R7(_) = r {
+        return 0;
+    }
+    record_number(r)
+}
+
 // All records, with that one marked which breaks the rule.
 pub(crate) fn show_records(l: &[u8], r: Rule)
     requires { ⌜ total small ≤ length (now l) ⌝ }
 {
-    let n = record_number(r);
+    let n = marked_by(r);
     show_first_bytes(l, n == 0);
     if let Rule::R4(_) = r {
         show_tasks(l, 0);

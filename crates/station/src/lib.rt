@@ -1,5 +1,6 @@
-// PROMISE. The station's board for its callers: making a fresh board, checking one, and the nineteen calls, on lent bytes of any length and
-// content. Read for the contracts: each says the answer and every byte afterwards by one definition of document 01 (paper, Outcomes).
+// PROMISE. The station's board for its callers: making a fresh board, checking one, converting a saved one, and the nineteen calls, on lent
+// bytes of any length and content. Read for the contracts: each says the answer and every byte afterwards by one definition (paper, Outcomes
+// and Conversion).
 pub mod exports;
 
 ghost use mathlib.Core.Path.{_≡_};

@@ -1,5 +1,5 @@
 -- The stores of each call's body come to its effect, on a board that is settled and where no refusal of its row applies.
---   Body z d p       the stores d come to what the paper says, p: the value and the bytes
+--   Body z b c d p   the stores d of c's call on b come to what the paper says, p: the value, the bytes, and whose status may be another
 -- Assumes nothing.
 use mathlib.Core.Path.{_≡_, refl, sym, ap, _∙_, subst}
 use mathlib.Core.Logic.{_≢_}
@@ -9,13 +9,13 @@ use Prim.Native.Nat.{ℕ}
 use lib.Dec.{eqb}
 use lib.ListN.{length}
 use Rattle.links.specs.Queue.{firstWith}
-use Rattle.links.specs.Chain.{In}
+use Rattle.links.specs.Chain.{In, Out}
 use Rattle.links.proofs.Members.{not-in-out}
 use Rattle.board.specs.declared.numbers.Size.{Size}
 use Rattle.board.specs.declared.numbers.TaskMeant.{TaskMeant}
 use Rattle.board.specs.declared.records.Message.{Message}
 use Rattle.board.specs.declared.places.Place.the-variants.{Free}
-use Rattle.board.specs.Numbers.{Numbered}
+use Rattle.board.specs.Numbers.{Numbered, numberOfTask}
 use Rattle.board.specs.Records.{noTask, noMessage}
 use Rattle.board.specs.Places.{isQueued}
 use Rattle.board.specs.Board.{Board, total, boardOf, task, message, withTask, withMessage, withPlace}
@@ -28,10 +28,11 @@ use Rattle.paper.specs.Rules.{present, queue, order}
 use Rattle.paper.specs.Changes.{hold}
 use Rattle.paper.specs.Effects.{placeAt, send, emptied, cancelMessage, waits, install, cancelTask, lowestFree, release}
 use Rattle.paper.specs.Refusals.{Test, no3, no4, no5, no6, no7, ownRow, Go, lowest}
-use Rattle.paper.specs.Outcomes.{Undispatched, undispatched, body}
+use Rattle.paper.specs.Outcomes.{Undispatched, body}
 use Rattle.linked.proofs.Running.{ready-says}
 use Rattle.kept.specs.Claims.{Sizes}
 use Rattle.kept.specs.Settled.{Settled, Awake}
+use Rattle.kept.specs.Touched.{touched, relinks}
 use Rattle.kept.proofs.Reading.{runner-passed, go-passed, install-row, cancel-row, claim-row, queue-walked, order-walked}
 use Rattle.kept.proofs.Holding.{unqueued-out, held-numbered}
 use Rattle.kept.proofs.Waiting.{task-numbered}
@@ -46,16 +47,13 @@ use Rattle.stored.proofs.Comes.{Comes, and-then, comes-to, comes-same, 
 use Rattle.stored.proofs.Links.{message-same}
 use Rattle.stored.proofs.Queues.{queue-out}
 use Rattle.stored.proofs.Order.{order-read, order-into, order-out}
+use Rattle.stored.proofs.Next.{Stirs, stirs-by, install-stirs, cancel-stirs}
 use Rattle.stored.proofs.Bodies.{comes-emptied, comes-post, comes-wait, comes-waits, comes-placed, first-read, comes-taken}
 
-pub record Body (z : Size) (d : Stored) (p : Undispatched) : Type 0 where
+pub record Body (z : Size) (b : Board) (c : ℕ) (d : Stored) (p : Undispatched) : Type 0 where
   pub value : d .value ≡ p .value
   pub bytes : Comes z (d .after) (p .board)
-
--- ---- a row
--- without a value
-does : {z : Size} {k : TaskMeant} {l : List ℕ} {b : Board} → Comes z l b → Body z (record { value = 0; stirred = k; after = l }) (undispatched 0 b)
-does h = record { value = refl; bytes = h }
+  pub stirs : Stirs b (p .board) c (numberOfTask (d .stirred))
 
 module _ (z : Size) (l : List ℕ) (e : length l ≡ total z) (a : Sizes z) (q : List ℕ) (queues : ℕ → List ℕ)
     (s : Settled z (boardOf z l) q queues) (c : ℕ) (awake : Awake (boardOf z l) c) where
@@ -128,28 +126,47 @@ module _ (z : Size) (l : List ℕ) (e : length l ≡ total z) (a : Sizes z) (q :
   there g = ready-says b c (awake (runner-passed c (go-passed (no3 c) [] g .0))) .0
 
   -- ---- every call
-  pub body-comes : (call : Call) → lowest (ownRow z b c call) ≡ Go → Body z (calls.body z l c call) (body z b c call)
-  body-comes (Install k t p sptr name) g = does (installed k t p sptr name g)
-  body-comes (PostInterrupt k) g = does (comes-post z l e k)
-  body-comes (Find name) g =
-      record {
-        value = ap (firstWith (λ k. eqb (task b k .name) name)) (order-read z l e (a .limit) (a .tasks) (s .regular .linked));
-        bytes = comes-same z l e;
-      }
-  body-comes (CancelTask k) g = does (cancelled k g)
-  body-comes Claim g = record { value = refl; bytes = comes-held z l e (lowestFree b) c (runner (claim-row b c g .0)) (a .tasks) }
-  body-comes (Prepare m t p sptr) g = does (comes-message z l e m _)
-  body-comes (Release m) g = does (released m)
-  body-comes (Send m r) g = does (sent m r g)
-  body-comes (SendAndWait m r) g = does (and-waits _ _ (sent m r g))
-  body-comes (Resend m) g = does (passed m (message b m .rptr) g)
-  body-comes (ResendAndWait m) g = does (and-waits _ _ (passed m (message b m .rptr) g))
-  body-comes (Forward m r) g = does (passed m r g)
-  body-comes (ForwardAndWait m r) g = does (and-waits _ _ (passed m r g))
-  body-comes (Return m) g = does (passed m (message b m .sptr) g)
-  body-comes (ReturnAndWait m) g = does (and-waits _ _ (passed m (message b m .sptr) g))
-  body-comes Receive g =
-      record { value = first-read z l e a q queues s c (there g); bytes = comes-taken z l e a q queues s c (there g) }
-  body-comes ReceiveAndWait g = does (comes-waits z l e c)
-  body-comes (CancelMessage m r) g = does (taken-back m r g)
-  body-comes WaitForInterrupt g = does (comes-wait z l e c)
+  -- without a value and without tasks linked anew
+  does : (call : Call) → body z b c call .value ≡ 0 → relinks (touched b c call .move) ≡ false → {k : TaskMeant} {m : List ℕ}
+      → ((j : ℕ) → j ≢ numberOfTask k → j ≢ c → Out j (touched b c call .tasks)) → Comes z m (body z b c call .board)
+      → Body z b c (record { value = 0; stirred = k; after = m }) (body z b c call)
+  does call v r {k = k} o h = record { value = sym v; bytes = h; stirs = stirs-by z b c call (numberOfTask k) r o }
+
+  pub body-comes : (call : Call) → lowest (ownRow z b c call) ≡ Go → Body z b c (calls.body z l c call) (body z b c call)
+  body-comes (Install k t p sptr name) g = record {
+    value = refl;
+    bytes = installed k t p sptr name g;
+    stirs = install-stirs z b c awake k t p sptr name (install-row z b k t p g .2);
+  }
+  body-comes (PostInterrupt k) g = does (PostInterrupt k) refl refl (λ j n m. (n, tt)) (comes-post z l e k)
+  body-comes (Find name) g = record {
+    value = ap (firstWith (λ k. eqb (task b k .name) name)) (order-read z l e (a .limit) (a .tasks) (s .regular .linked));
+    bytes = comes-same z l e;
+    stirs = stirs-by z b c (Find name) 0 refl (λ j n m. tt);
+  }
+  body-comes (CancelTask k) g = record { value = refl; bytes = cancelled k g; stirs = cancel-stirs z b c k }
+  body-comes Claim g = record {
+    value = refl;
+    bytes = comes-held z l e (lowestFree b) c (runner (claim-row b c g .0)) (a .tasks);
+    stirs = stirs-by z b c Claim 0 refl (λ j n m. tt);
+  }
+  body-comes (Prepare i t p sptr) g = does (Prepare i t p sptr) refl refl (λ j n m. tt) (comes-message z l e i _)
+  body-comes (Release i) g = does (Release i) refl refl (λ j n m. tt) (released i)
+  body-comes (Send i r) g = does (Send i r) refl refl (λ j n m. (n, tt)) (sent i r g)
+  body-comes (SendAndWait i r) g = does (SendAndWait i r) refl refl (λ j n m. (n, (m, tt))) (and-waits _ _ (sent i r g))
+  body-comes (Resend i) g = does (Resend i) refl refl (λ j n m. (n, tt)) (passed i (message b i .rptr) g)
+  body-comes (ResendAndWait i) g =
+      does (ResendAndWait i) refl refl (λ j n m. (n, (m, tt))) (and-waits _ _ (passed i (message b i .rptr) g))
+  body-comes (Forward i r) g = does (Forward i r) refl refl (λ j n m. (n, tt)) (passed i r g)
+  body-comes (ForwardAndWait i r) g = does (ForwardAndWait i r) refl refl (λ j n m. (n, (m, tt))) (and-waits _ _ (passed i r g))
+  body-comes (Return i) g = does (Return i) refl refl (λ j n m. (n, tt)) (passed i (message b i .sptr) g)
+  body-comes (ReturnAndWait i) g =
+      does (ReturnAndWait i) refl refl (λ j n m. (n, (m, tt))) (and-waits _ _ (passed i (message b i .sptr) g))
+  body-comes Receive g = record {
+    value = first-read z l e a q queues s c (there g);
+    bytes = comes-taken z l e a q queues s c (there g);
+    stirs = stirs-by z b c Receive 0 refl (λ j n m. (m, tt));
+  }
+  body-comes ReceiveAndWait g = does ReceiveAndWait refl refl (λ j n m. (m, tt)) (comes-waits z l e c)
+  body-comes (CancelMessage i r) g = does (CancelMessage i r) refl refl (λ j n m. (n, tt)) (taken-back i r g)
+  body-comes WaitForInterrupt g = does WaitForInterrupt refl refl (λ j n m. (m, tt)) (comes-wait z l e c)

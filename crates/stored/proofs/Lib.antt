@@ -4,6 +4,6 @@ mod Links
 mod Queues
 mod Order
 mod Bodies
-mod Calls
 mod Next
+mod Calls
 pub mod Theorems

@@ -28,7 +28,7 @@ use Rattle.kept.specs.Touched.{touched, orderAfter, queuesAfter}
 use Rattle.kept.proofs.Fitting.{fits-board}
 use Rattle.kept.proofs.Dispatching.{listed-walked, next-rightly, runs-byte, next-settled, due-there, dispatch-delivers}
 use Rattle.kept.proofs.Theorems.{passing-sound, sound-settled, sound-awake}
-use Rattle.kept.proofs.Bodies.{body-settles}
+use Rattle.kept.proofs.Bodies.{body-settles, body-frame}
 use Rattle.stores.specs.Changes as changes
 use Rattle.stores.specs.Effects as effects
 use Rattle.stores.specs.Answers.{Stored, bodyBy, bytesBy}
@@ -36,7 +36,7 @@ use Rattle.stores.specs.Calls as calls
 use Rattle.stored.proofs.Comes.{Comes, and-then, comes-running, comes-task}
 use Rattle.stored.proofs.Bodies.{first-walked, first-numbered, comes-taken}
 use Rattle.stored.proofs.Calls.{body-comes}
-use Rattle.stored.proofs.Next.{then-on, body-next}
+use Rattle.stored.proofs.Next.{then-on, then-next}
 
 -- bytes that come to a board are its bytes
 comes-bytes : (z : Size) (l : List ℕ) (b : Board) → Comes z l b → Small l → l ≡ bytesOf b
@@ -123,7 +123,8 @@ module _ (z : Size) (l : List ℕ) (call : Call) (a : Sizes z) (h : Bytes z l) (
       let settled = body-settles z before (s .order) (s .queues) runner call a w t awake (s .idle) g in
       let after = subst (λ (x : Board). Settled z x (orderAfter before (s .order) move) (queuesAfter before (s .queues) move)) (sym (c .bytes .1)) settled in
       let listed = listed-walked z d (orderAfter before (s .order) move) (queuesAfter before (s .queues) move) a settled in
-      let next = body-next z l runner call (s .runs) (settled .fits .tasks) listed awake refl g in
+      let ran = body-frame z before runner call .running in
+      let next = then-next z before d runner (numberOfTask (made .stirred)) (s .runs) (settled .fits .tasks) listed ran (c .stirs) in
       let runs : then ≡ runsNext z (boardOf z (made .after)) =
       ap (λ (x : Board). then-on z x runner (numberOfTask (made .stirred))) (c .bytes .1) ∙ next ∙ ap (runsNext z) (sym (c .bytes .1)) in
       ap (λ (k : ℕ). calls.dispatch z (made .value) (putRunning (made .after) (k % 256)) k) runs

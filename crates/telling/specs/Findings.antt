@@ -1,5 +1,5 @@
--- What a program goes by of the check's answer.
---   findingOf a     passed, with the running task; or refused
+-- What a program goes by of the answer of the check, or of the conversion.
+--   findingOf a     accepted, with the running task; or refused
 -- Assumes nothing.
 use Rattle.paper.specs.declared.answer.Answer.{Answer}
 use Rattle.paper.specs.declared.answer.Answer.the-variants as answer

@@ -17,7 +17,7 @@ use rules::Edition;
 use station::check;
 use station::convert;
 
-// The board passes and this task runs, 0 for none; or it is refused.
+// The board passes, or is converted, and this task runs, 0 for none; or it is refused.
 pub enum Finding {
     Passes(u16),
     Refused(Refusal),
