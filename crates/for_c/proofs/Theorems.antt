@@ -22,7 +22,7 @@ use Rattle.paper.specs.Rules.{firstReady, passes}
 use Rattle.paper.specs.Named.{brokenRule}
 use Rattle.paper.specs.Outcomes.{effect, check}
 use Rattle.paper.specs.Conversion.{oldRule7, oldPasses, oldBroken, convert}
-use Rattle.paper.specs.Claims.{Names, Ends1And7, today, old, BrokenAt}
+use Rattle.paper.specs.Claims.{Names, Edition, today, old, BrokenAt}
 use Rattle.paper.proofs.Theorems.{handed-tells, refusal-number}
 use Rattle.paper.proofs.Which.{nth-numbered}
 use Rattle.paper.proofs.Naming.{verdict-stays, lowest-is-named, rule-only-with-2}
@@ -42,7 +42,7 @@ rule-small a = step (ℕ-discrete (handed a .number) 2)
     step (no n) = let r = rule-only-with-2 a .1 n in omega arith
 
 -- the record is a number of the board, 0, or what R7 is told with
-record-small : (by : Ends1And7) (b : Board) → (by .last ≡ false → by .told < 256) → (r : Rule) → BrokenAt by small b r
+record-small : (by : Edition) (b : Board) → (by .last ≡ false → by .told < 256) → (r : Rule) → BrokenAt by small b r
     → recordNumber r < 256
 record-small by b f R1 h = lit< tt
 record-small by b f (R2 k) h = omega (arith, h .0 .1)

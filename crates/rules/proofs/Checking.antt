@@ -26,7 +26,7 @@ use Rattle.queue_rules.proofs.Lists.{rule5-counted}
 use Rattle.queue_rules.proofs.Breaking.{breaking-none, breaking-task, breaking-nobody, breaking-message, breaking-nothing}
 use Rattle.rules.specs.declared.records.Tasks.{Tasks}
 use Rattle.rules.specs.declared.records.Messages.{Messages}
-use Rattle.rules.specs.declared.Between.the-variants as between
+use Rattle.rules.specs.declared.Checked.the-variants.{Broken, Passes}
 use Rattle.rules.specs.Checked.{messagesIf, messagesSeen, tasksIf, tasksSeen, betweenOf}
 
 -- ---- R3's answer
@@ -70,26 +70,26 @@ module _ (z : Size) (l : List ℕ) where
   r6 = each (rule6At b) (z .tasks)
 
   -- ---- R2 to R6: the first that fails, with the record
-  pub breaks2 : {k : TaskNo} → r2 ≡ false → k ≡ taskNo (smallestFailing (rule2At b) (z .tasks)) → between.Broken (R2 k) ≡ betweenOf z b
+  pub breaks2 : {k : TaskNo} → r2 ≡ false → k ≡ taskNo (smallestFailing (rule2At b) (z .tasks)) → Broken (R2 k) ≡ betweenOf z b
   breaks2 e n = rw (e, n)
 
   module _ (h2 : r2 ≡ true) where
-    pub breaks3 : rule3 z b ≡ false → between.Broken R3 ≡ betweenOf z b
+    pub breaks3 : rule3 z b ≡ false → Broken R3 ≡ betweenOf z b
     breaks3 e = rw (h2, e)
 
     module _ (h3 : rule3 z b ≡ true) where
-      pub breaks4 : {m : MsgNo} → r4 ≡ false → m ≡ msgNo (smallestFailing (rule4At z b) (z .messages)) → between.Broken (R4 m) ≡ betweenOf z b
+      pub breaks4 : {m : MsgNo} → r4 ≡ false → m ≡ msgNo (smallestFailing (rule4At z b) (z .messages)) → Broken (R4 m) ≡ betweenOf z b
       breaks4 e n = rw (h2, h3, e, n)
 
       module _ (h4 : r4 ≡ true) where
-        pub breaks5 : {k : TaskNo} → r5 ≡ false → k ≡ taskNo (smallestFailing (rule5At z b) (z .tasks)) → between.Broken (R5 k) ≡ betweenOf z b
+        pub breaks5 : {k : TaskNo} → r5 ≡ false → k ≡ taskNo (smallestFailing (rule5At z b) (z .tasks)) → Broken (R5 k) ≡ betweenOf z b
         breaks5 e n = rw (h2, h3, h4, e, n)
 
         module _ (h5 : r5 ≡ true) where
-          pub breaks6 : {k : TaskNo} → r6 ≡ false → k ≡ taskNo (smallestFailing (rule6At b) (z .tasks)) → between.Broken (R6 k) ≡ betweenOf z b
+          pub breaks6 : {k : TaskNo} → r6 ≡ false → k ≡ taskNo (smallestFailing (rule6At b) (z .tasks)) → Broken (R6 k) ≡ betweenOf z b
           breaks6 e n = rw (h2, h3, h4, h5, e, n)
 
-          pub all-hold : {f : TaskMeant} → r6 ≡ true → f ≡ taskMeant z (firstReady z b) → between.Kept f ≡ betweenOf z b
+          pub all-hold : {f : TaskMeant} → r6 ≡ true → f ≡ taskMeant z (firstReady z b) → Passes f ≡ betweenOf z b
           all-hold e n = rw (h2, h3, h4, h5, e, n)
 
   -- ---- what the look at the tasks tells

@@ -27,8 +27,6 @@ use Rattle.paper.specs.declared.answer.Rule.the-variants.{R1, R7}
 use Rattle.paper.specs.Rules.{taskNumber, firstReady, allZero, rules2to6, rule7}
 use Rattle.paper.specs.Named.{broken2to6}
 use Rattle.linked.proofs.Chosen.{rules3, first-numbered, first-meant, tasks-listed, rule7-first}
-use Rattle.rules.specs.declared.Between.{Between}
-use Rattle.rules.specs.declared.Between.the-variants as between
 use Rattle.rules.specs.declared.Edition.{Edition}
 use Rattle.rules.specs.declared.Edition.the-variants.{Today, Old}
 use Rattle.rules.specs.declared.Checked.{Checked}
@@ -198,23 +196,22 @@ module _ (z : Size) (l : List ℕ) where
         by Old h = rw (first-number, first-small small, h, e) (turned (has (task b (firstReady z b) .stat) MHBS) _ _)
 
     -- y is what they come to
-    module _ {y : Between} (ey : y ≡ betweenOf z b) where
-      pub between-fails : {r : Rule} → y ≡ between.Broken r → Broken r ≡ checkedOf edition z b
+    module _ {y : Checked} (ey : y ≡ betweenOf z b) where
+      pub between-fails : {r : Rule} → y ≡ Broken r → y ≡ checkedOf edition z b
       between-fails {r = r} e = go (rules2to6 z b) refl (sym e ∙ ey)
         where
-          go : (t : Bool) → rules2to6 z b ≡ t
-              → between.Broken r ≡ cond t (between.Kept (taskMeant z (firstReady z b))) (between.Broken (broken2to6 z b))
-              → Broken r ≡ checkedOf edition z b
+          go : (t : Bool) → rules2to6 z b ≡ t → Broken r ≡ cond t (Passes (taskMeant z (firstReady z b))) (Broken (broken2to6 z b))
+              → y ≡ checkedOf edition z b
           go true d i = let f : _≡_ {A = ℕ} 0 1 = cc in absurd (omega arith)
-          go false d i = let j : r ≡ broken2to6 z b = cc in ap Broken j ∙ middle-fails d
+          go false d i = e ∙ i ∙ middle-fails d
 
       -- first is the first ready task, and x what R7 comes to
-      pub between-holds : {first : TaskMeant} {x : Checked} → z .tasks < 256 → y ≡ between.Kept first → x ≡ ranBy edition z b first
+      pub between-holds : {first : TaskMeant} {x : Checked} → z .tasks < 256 → y ≡ Passes first → x ≡ ranBy edition z b first
           → x ≡ checkedOf edition z b
       between-holds {first = first} {x = x} small e ex = go (rules2to6 z b) refl (sym e ∙ ey)
         where
           go : (t : Bool) → rules2to6 z b ≡ t
-              → between.Kept first ≡ cond t (between.Kept (taskMeant z (firstReady z b))) (between.Broken (broken2to6 z b))
+              → Passes first ≡ cond t (Passes (taskMeant z (firstReady z b))) (Broken (broken2to6 z b))
               → x ≡ checkedOf edition z b
           go true d i = let j : first ≡ taskMeant z (firstReady z b) = cc in ex ∙ ap (ranBy edition z b) j ∙ middle-holds small d
           go false d i = let f : _≡_ {A = ℕ} 0 1 = cc in absurd (omega arith)

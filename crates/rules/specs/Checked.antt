@@ -30,8 +30,6 @@ use Rattle.paper.specs.Conversion.{oldPasses, oldBroken}
 use Rattle.queue_rules.specs.Walks.{counted, queued, breaking}
 use Rattle.rules.specs.declared.records.Tasks.{Tasks}
 use Rattle.rules.specs.declared.records.Messages.{Messages}
-use Rattle.rules.specs.declared.Between.{Between}
-use Rattle.rules.specs.declared.Between.the-variants as between
 use Rattle.rules.specs.declared.Edition.{Edition}
 use Rattle.rules.specs.declared.Edition.the-variants.{Today, Old}
 use Rattle.rules.specs.declared.Checked.{Checked}
@@ -62,8 +60,8 @@ abbrev pub earlier : TaskMeant → TaskMeant → TaskMeant
 earlier (Task k) t = Task k
 earlier NoTask t = t
 
-abbrev pub betweenOf : Size → Board → Between
-betweenOf z b = cond (rules2to6 z b) (between.Kept (taskMeant z (firstReady z b))) (between.Broken (broken2to6 z b))
+abbrev pub betweenOf : Size → Board → Checked
+betweenOf z b = cond (rules2to6 z b) (Passes (taskMeant z (firstReady z b))) (Broken (broken2to6 z b))
 
 abbrev pub leadsWith : Board → ℕ → ℕ → Bool
 leadsWith b c f = ready b c && not (ltb (taskNumber b f) (taskNumber b c)) && not (has (task b c .stat) MHBS)

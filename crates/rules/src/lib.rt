@@ -35,40 +35,35 @@ pub enum Checked {
     Passes(TaskMeant),
 }
 
-// What R2 to R6 come to: a broken rule and the record, or that they hold and this is the first ready task.
-pub enum Between {
-    Broken(Rule),
-    Kept(TaskMeant),
-}
-
-// R2 to R6, the same in both editions.
-fn check_2_to_6(z: Size, l: &[u8]) -> Between
+// R2 to R6, the same in both editions; where they hold, the first ready task. The answer has the form of the whole check's, so that a
+// broken rule is handed on as it is.
+fn check_2_to_6(z: Size, l: &[u8]) -> Checked
     requires { ⌜ (total z ≤ length (now l)) × (z .tasks < 256) ⌝ }
     ensures { λ res. ⌜ res ≡ betweenOf z (boardOf z (now (l .entry))) ⌝ }
 {
     let tasks = survey_tasks(z, l);
     let breaks2 = tasks.breaks2;
     if let TaskMeant::Task(k) = breaks2 {
-        return Between::Broken(Rule::R2(k));
+        return Checked::Broken(Rule::R2(k));
     }
     let order = rule3(z, l, tasks.present);
     let Order::Listed(first) = order else {
-        return Between::Broken(Rule::R3);
+        return Checked::Broken(Rule::R3);
     };
     let messages = survey_messages(z, l);
     let breaks4 = messages.breaks4;
     if let MessageMeant::Message(m) = breaks4 {
-        return Between::Broken(Rule::R4(m));
+        return Checked::Broken(Rule::R4(m));
     }
     let breaks5 = rule5(z, l, messages.queued);
     if let TaskMeant::Task(k) = breaks5 {
-        return Between::Broken(Rule::R5(k));
+        return Checked::Broken(Rule::R5(k));
     }
     let breaks6 = tasks.breaks6;
     if let TaskMeant::Task(k) = breaks6 {
-        return Between::Broken(Rule::R6(k));
+        return Checked::Broken(Rule::R6(k));
     }
-    Between::Kept(first)
+    Checked::Passes(first)
 }
 
 // R1: bytes 2 and 3 are zero; byte 1 too where boards were saved.
@@ -95,8 +90,8 @@ pub fn check_rules(edition: Edition, z: Size, l: &[u8]) -> Checked
         return Checked::Broken(Rule::R1);
     }
     let between = check_2_to_6(z, l);
-    match between {
-        Between::Broken(r) => Checked::Broken(r),
-        Between::Kept(first) => rule7_of(edition, z, l, first),
-    }
+    let Checked::Passes(first) = between else {
+        return between;
+    };
+    rule7_of(edition, z, l, first)
 }
