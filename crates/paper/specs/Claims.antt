@@ -5,8 +5,8 @@
 --                       bytes whose board passes the old rules
 --   LowestIsGiven       the refusal that a call, check, fresh or conversion gives stands in its row and applies, and none of a lower number
 --                       does; none is given only where none applies
---   VerdictStays        2 is given exactly where the length is right and a rule is broken, and names what brokenRule says; a board that
---                       passes is accepted, with byte 1 as the running task
+--   VerdictStays        2 is given exactly where the length is right and a rule is broken, and names what brokenRule says, by the conversion
+--                       what oldBroken says; a board that passes is accepted, with byte 1 as the running task
 --   BrokenAt by z b r   the rule r is broken at the record that it names, by the rules of today or by the old ones; NoLater r s: r is a
 --                       lower rule than s, or the same with no greater record; Lowest by z b r: it is broken, and none is lower
 --   LowestIsNamed       the rule named is broken at the record named; no lower rule is broken, and no smaller record breaks that one

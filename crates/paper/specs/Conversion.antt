@@ -1,7 +1,7 @@
 -- Document 02, Ask 3: boards that were saved when bytes 1 to 3 were zero and the first ready task in queue order ran. The rules of that time,
--- and the conversion of a board that keeps them. They stay as they are, whatever later requests make of the rules. A reader must believe
+-- which stay as they are whatever later requests make of the others, and the conversion of a board that keeps them. A reader must believe
 -- this file.
---   oldRule1 b         R1 over bytes 1 to 3; oldRule7 z b R7 of the task that ran then. R2 to R6 are those of today (Rules)
+--   oldRule1 b         R1 over bytes 1 to 3; oldRule7 z b R7 of the task that ran then. R2 to R6 have not changed since (Rules)
 --   oldPasses z b      all of them; oldBroken z b the lowest that is broken, and its record
 --   convert z l        byte 1 becomes the task that ran by the old rules, and nothing else; a board that breaks them is refused as it was
 -- Assumes nothing.

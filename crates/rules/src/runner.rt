@@ -36,7 +36,7 @@ fn leads(z: Size, l: &[u8], c: TaskMeant, f: TaskNo) -> bool
     !s.has(Status::MHBS)
 }
 
-// Nobody ready has a smaller priority number than the first ready task, so nobody else is looked at.
+// R7 of today. Nobody ready has a smaller priority number than the first ready task, so nobody else is looked at.
 fn rule7(z: Size, l: &[u8], first: TaskMeant) -> Checked
     requires { ⌜ total z ≤ length (now l) ⌝ }
     ensures { λ res. ⌜ res ≡ ranOf z (boardOf z (now (l .entry))) first ⌝ }
@@ -55,6 +55,7 @@ fn rule7(z: Size, l: &[u8], first: TaskMeant) -> Checked
     Checked::Broken(Rule::R7(c))
 }
 
+// R7 of saved boards: the first ready task ran.
 fn old_rule7(z: Size, l: &[u8], first: TaskMeant) -> Checked
     requires { ⌜ total z ≤ length (now l) ⌝ }
     ensures { λ res. ⌜ res ≡ oldRanOf (boardOf z (now (l .entry))) first ⌝ }
