@@ -22,7 +22,7 @@ use Rattle.paper.specs.Rules.{firstReady, passes}
 use Rattle.paper.specs.Named.{brokenRule}
 use Rattle.paper.specs.Refusals.{test, no2By, lowest}
 use Rattle.paper.specs.Outcomes.{Outcome, Ends, accepted, refused, judge, blank, fresh, check}
-use Rattle.paper.specs.Conversion.{oldPasses, oldBroken, convert}
+use Rattle.paper.specs.Conversion.{oldPasses, oldBroken, converted, convert}
 use Rattle.linked.proofs.Chosen.{awake-meant, first-numbered, first-meant}
 use Rattle.linked.proofs.Theorems.{passes-exactly}
 use Rattle.kept.proofs.Theorems.{small-sizes}
@@ -157,11 +157,8 @@ module _ (l : List ℕ) {s : Bool} (es : s ≡ eqb (length l) (total small)) whe
   abbrev named : Rule
   named = oldBroken small saved
 
-  abbrev converted : Outcome
-  converted = accepted 0 ran 0 (putRunning l ran)
-
   pub convert-length : not s ≡ true → Ends (Refused WrongLength) l (convert small l)
-  convert-length h = wrong-length l named converted (oldPasses small saved) es h
+  convert-length h = wrong-length l named (converted small l) (oldPasses small saved) es h
 
   -- the number of the task that ran is a byte
   ran-small : ran % 256 ≡ ran
@@ -173,7 +170,7 @@ module _ (l : List ℕ) {s : Bool} (es : s ≡ eqb (length l) (total small)) whe
 
   module _ (h : not s ≡ false) {x : Checked} (ex : x ≡ checkedOf Old small saved) where
     pub convert-broken : {r : Rule} → x ≡ Broken r → Ends (Refused (RuleBroken r)) l (convert small l)
-    convert-broken e = rule-told l named converted (oldPasses small saved) es h (rules-broken (oldPasses small saved) (taskMeant small ran) named ex e)
+    convert-broken e = rule-told l named (converted small l) (oldPasses small saved) es h (rules-broken (oldPasses small saved) (taskMeant small ran) named ex e)
 
     -- m are the bytes with the task that ran in byte 1, and n its number
     pub converts : {w : TaskMeant} {m : List ℕ} {n : ℕ} → x ≡ Passes w → m ≡ putRunning l (numberOfTask w % 256) → n ≡ numberOfTask w
@@ -182,4 +179,4 @@ module _ (l : List ℕ) {s : Bool} (es : s ≡ eqb (length l) (total small)) whe
         let r = rules-kept (oldPasses small saved) (taskMeant small ran) named ex e in
         let k : numberOfTask w ≡ ran = ap numberOfTask (r .1) ∙ first-meant small saved (length-tasks small l) in
         let bytes = em ∙ ap (λ (j : ℕ). putRunning l (j % 256)) k ∙ ap (putRunning l) ran-small in
-        ends (passed l named converted (oldPasses small saved) es h (r .0) ∙ (λ i. accepted 0 (sym (en ∙ k) i) 0 (sym bytes i)))
+        ends (passed l named (converted small l) (oldPasses small saved) es h (r .0) ∙ (λ i. accepted 0 (sym (en ∙ k) i) 0 (sym bytes i)))
