@@ -1,14 +1,16 @@
 -- The walk of the task queue: what a turn makes of it, where it stops, and who is the first ready task on its way.
 -- Assumes nothing.
 use mathlib.Core.Path.{_≡_, refl, sym, ap, ap₂, _∙_}
-use mathlib.Core.Bool.{Bool, true, false, cond, _&&_}
+use mathlib.Core.Bool.{Bool, true, false, cond, _&&_, true≢false}
 use mathlib.Core.List.{List}
 use Prim.Native.Nat.{ℕ, zero, suc, _+_, _-_, _≤_, _<_}
 use native.Mathlib.Omega.{arith}
+use lib.ListN.{length}
 use lib.Dec.{eqb, leb}
 use borrow.Author.Tests.{eqb-true, eqb-false, eq-eqb, ne-eqb}
 use Rattle.links.specs.Queue.{walk, firstWith}
-use Rattle.links.proofs.Chains.{walk-step, walk-end}
+use Rattle.links.proofs.Bools.{both, and-true}
+use Rattle.links.proofs.Chains.{walk-step, walk-end, walk-length}
 use Rattle.board.specs.declared.numbers.Size.{Size}
 use Rattle.board.specs.declared.numbers.TaskNo.{TaskNo}
 use Rattle.board.specs.declared.numbers.TaskMeant.{TaskMeant}
@@ -32,9 +34,9 @@ use Rattle.order_rules.specs.declared.tasks.TaskTurn.{TaskTurn}
 use Rattle.order_rules.specs.declared.tasks.TaskTurn.the-variants as ts
 use Rattle.order_rules.specs.Order.{onTask, taskTurned, orderVisited, withReady, orderFrom, listedBy}
 use Rattle.queue_rules.specs.Walks.{counted, saw}
-use Rattle.queue_rules.proofs.Lists.{rule3-is}
+use Rattle.queue_rules.proofs.Lists.{saw-cond, rule3-is}
 use Rattle.queue_rules.proofs.Turns.{first-none, first-out, first-found, first-behind}
-use Rattle.queue_rules.proofs.Visits.{visited-end, visited-out, visited-stray, went-visited}
+use Rattle.queue_rules.proofs.Visits.{visited-end, visited-out, visited-stray, went-visited, orderly, visited-whole, orderly-moves}
 
 -- ---- a link that leads beyond the board leads to nothing that belongs there
 pub nobody-there : (z : Size) (l : List ℕ) (k : ℕ) → outside (z .tasks) k ≡ true → present (boardOf z l) k ≡ false
@@ -231,16 +233,16 @@ module _ (z : Size) (l : List ℕ) where
             ∙ first-behind (ready b) (nextTask b) n (k .0) from refl h (not-none (z .tasks) (k .0) there) f,
       )
 
-  -- ---- the whole walk, which starts at x
-  pub order-empty : (x : ℕ) → x ≡ 0 → Seen 0 who.NoTask ≡ orderFrom z b x
-  order-empty x e =
-      ap₂ withReady (sym (visited-end (nextTask b) (taskNumber b) (present b) (z .messages) x 0 0 e))
-      (ap (taskMeant z) (first-none (ready b) (nextTask b) (z .messages) x refl e))
+  -- ---- the whole walk, of at most n links, which starts at x
+  pub order-empty : (n x : ℕ) → x ≡ 0 → Seen 0 who.NoTask ≡ orderFrom z b n x
+  order-empty n x e =
+      ap₂ withReady (sym (visited-end (nextTask b) (taskNumber b) (present b) n x 0 0 e))
+      (ap (taskMeant z) (first-none (ready b) (nextTask b) n x refl e))
 
-  pub order-beyond : (x : ℕ) → (x ≡ 0 → ⊥) → outside (z .tasks) x ≡ true → Broken ≡ orderFrom z b x
-  order-beyond x h o =
-      ap (λ (w : Walked). withReady w (taskMeant z (firstWith (ready b) (walk (nextTask b) (z .messages) x))))
-      (sym (visited-stray (nextTask b) (taskNumber b) (present b) (z .messages) x 0 0 h (nobody-there z l x o)))
+  pub order-beyond : (n x : ℕ) → (x ≡ 0 → ⊥) → outside (z .tasks) x ≡ true → Broken ≡ orderFrom z b n x
+  order-beyond n x h o =
+      ap (λ (w : Walked). withReady w (taskMeant z (firstWith (ready b) (walk (nextTask b) n x))))
+      (sym (visited-stray (nextTask b) (taskNumber b) (present b) n x 0 0 h (nobody-there z l x o)))
 
 -- ---- R3
 -- a walk that saw n, where p are present
@@ -255,22 +257,73 @@ module _ (z : Size) (l : List ℕ) where
   abbrev board : Board
   board = boardOf z l
 
-  abbrev first : TaskMeant
-  first = taskMeant z (firstReady z board)
+  -- the walk of at most n links: what it sees, in which order, and the first ready task on its way
+  abbrev seenIn : ℕ → Walked
+  seenIn n = orderVisited board n (board .first) 0 0
+
+  abbrev walkIn : ℕ → List ℕ
+  walkIn n = walk (nextTask board) n (board .first)
+
+  abbrev firstIn : ℕ → TaskMeant
+  firstIn n = taskMeant z (firstWith (ready board) (walkIn n))
+
+  told : (p : ℕ) (v : Walked) (c : TaskMeant) → listedBy p (withReady v c) ≡ cond (saw v p) (order.Listed c) order.Broken
+  told p (walks.Seen n) c = refl
+  told p walks.Broken c = refl
+
+  -- it saw p
+  saw-whole : (p n : ℕ) → saw (seenIn n) p
+      ≡ orderly (nextTask board) (taskNumber board) (present board) n (board .first) 0 && eqb (length (walkIn n)) p
+  saw-whole p n =
+      ap (λ (v : Walked). saw v p) (visited-whole (nextTask board) (taskNumber board) (present board) n (board .first))
+      ∙ saw-cond (orderly (nextTask board) (taskNumber board) (present board) n (board .first) 0) (length (walkIn n)) p
+
+  saw-bound : (p n : ℕ) → saw (seenIn n) p ≡ true → p ≤ n
+  saw-bound p n e =
+      let s = both (orderly (nextTask board) (taskNumber board) (present board) n (board .first) 0) (eqb (length (walkIn n)) p)
+      (sym (saw-whole p n) ∙ e) in
+      omega (arith, eqb-true (length (walkIn n)) p (s .1), walk-length (nextTask board) n (board .first))
+
+  -- then another sees the same, where it may follow as many
+  saw-moves : (p n m : ℕ) → p ≤ m → saw (seenIn n) p ≡ true → (saw (seenIn m) p ≡ true) × (walkIn m ≡ walkIn n)
+  saw-moves p n m h e =
+      let s = both (orderly (nextTask board) (taskNumber board) (present board) n (board .first) 0) (eqb (length (walkIn n)) p)
+      (sym (saw-whole p n) ∙ e) in
+      let r =
+      orderly-moves (nextTask board) (taskNumber board) (present board) n m (board .first) 0 (s .0)
+      (omega (arith, eqb-true (length (walkIn n)) p (s .1))) in (
+        saw-whole p m
+            ∙ and-true (orderly (nextTask board) (taskNumber board) (present board) m (board .first) 0) _ (r .0)
+            (ap (λ (q : List ℕ). eqb (length q) p) (r .1) ∙ s .1),
+        r .1,
+      )
+
+  -- so n links tell of p tasks what more would, where they are no fewer than p
+  pub fewer-links : (p n : ℕ) → n ≤ z .messages → (p ≤ z .messages → n ≡ p)
+      → listedBy p (orderFrom z board n (board .first)) ≡ listedBy p (orderFrom z board (z .messages) (board .first))
+  fewer-links p n h g =
+      told p (seenIn n) (firstIn n) ∙ go (saw (seenIn n) p) refl (saw (seenIn (z .messages)) p) refl
+      ∙ sym (told p (seenIn (z .messages)) (firstIn (z .messages)))
+    where
+      go : (s : Bool) → saw (seenIn n) p ≡ s → (t : Bool) → saw (seenIn (z .messages)) p ≡ t
+          → cond s (order.Listed (firstIn n)) order.Broken ≡ cond t (order.Listed (firstIn (z .messages))) order.Broken
+      go true e true f =
+          ap (λ (q : List ℕ). order.Listed (taskMeant z (firstWith (ready board) q)))
+          (saw-moves p (z .messages) n (saw-bound p n e) f .1)
+      go true e false f =
+          let k = saw-bound p n e in absurd (true≢false (sym (saw-moves p n (z .messages) (omega arith) e .0) ∙ f))
+      go false e true f =
+          let k = g (saw-bound p (z .messages) f) in absurd (true≢false (sym (saw-moves p (z .messages) n (omega arith) f .0) ∙ e))
+      go false e false f = refl
 
   -- R3's answer: the task queue is in order and this is its first ready task, or it is broken
   abbrev pub listed : Order
-  listed = cond (rule3 z board) (order.Listed first) order.Broken
-
-  abbrev seen : Walked
-  seen = orderVisited board (z .messages) (board .first) 0 0
+  listed = cond (rule3 z board) (order.Listed (taskMeant z (firstReady z board))) order.Broken
 
   -- it saw as many as are present, p: the task queue lists them all
   pub order-counted : (p : ℕ) → p ≡ counted (present board) (z .tasks)
-      → listedBy p (orderFrom z board (board .first)) ≡ listed
+      → listedBy p (orderFrom z board (z .messages) (board .first)) ≡ listed
   order-counted p g =
-      told seen ∙ ap (λ (t : Bool). cond t (order.Listed first) order.Broken) (ap (saw seen) g ∙ rule3-is z board (length-tasks z l))
-    where
-      told : (v : Walked) → listedBy p (withReady v first) ≡ cond (saw v p) (order.Listed first) order.Broken
-      told (walks.Seen n) = refl
-      told walks.Broken = refl
+      told p (seenIn (z .messages)) (firstIn (z .messages))
+      ∙ ap (λ (t : Bool). cond t (order.Listed (taskMeant z (firstReady z board))) order.Broken)
+      (ap (saw (seenIn (z .messages))) g ∙ rule3-is z board (length-tasks z l))

@@ -1,7 +1,7 @@
 -- R3 as code tests it: one walk of the task queue that counts, and meets the first ready task. The contracts of src/tasks.rt cite this file.
 --   taskTurned z b k low   one link of the task queue; one that leads beyond the board leads astray
 --   orderVisited b n x ..  the walk of the task queue
---   orderFrom z b x        the walk from x on, with the first ready task that it meets
+--   orderFrom z b n x      the walk of at most n links from x on, with the first ready task that it meets
 --   listedBy p w           what a walk says where p tasks are present: all are listed and this is the first ready one, or it is broken
 -- Assumes nothing.
 use mathlib.Core.Bool.{cond}
@@ -39,9 +39,8 @@ abbrev pub withReady : Walked → TaskMeant → OrderWalked
 withReady (walks.Seen n) c = Seen n c
 withReady walks.Broken c = Broken
 
-abbrev pub orderFrom : Size → Board → ℕ → OrderWalked
-orderFrom z b x =
-    withReady (orderVisited b (z .messages) x 0 0) (taskMeant z (firstWith (ready b) (walk (nextTask b) (z .messages) x)))
+abbrev pub orderFrom : Size → Board → ℕ → ℕ → OrderWalked
+orderFrom z b n x = withReady (orderVisited b n x 0 0) (taskMeant z (firstWith (ready b) (walk (nextTask b) n x)))
 
 abbrev pub listedBy : ℕ → OrderWalked → Order
 listedBy p (Seen n c) = cond (eqb n p) (order.Listed c) order.Broken

@@ -58,12 +58,11 @@ fn task_turn(z: Size, l: &[u8], k: TaskNo, low: u8) -> TaskTurn
     TaskTurn::Next { k: j, low: p }
 }
 
-// The walk from task k on, behind so many seen and the priority number low.
-fn walk_on(z: Size, l: &[u8], from: TaskNo, least: u8, before: u32) -> Walked
+// The walk from task k on, behind so many seen and the priority number low, of at most so many tasks in all.
+fn walk_on(z: Size, l: &[u8], from: TaskNo, least: u8, before: u32, most: u32) -> Walked
     requires { ⌜ (total z ≤ length (now l)) × (outside (z .tasks) (from .0) ≡ false) ⌝ }
-    ensures { λ res. ⌜ res ≡ orderVisited (boardOf z (now (l .entry))) (z .messages - before) (from .0) least before ⌝ }
+    ensures { λ res. ⌜ res ≡ orderVisited (boardOf z (now (l .entry))) (most - before) (from .0) least before ⌝ }
 {
-    let most = z.messages as u32;
     let mut k = from;
     let mut low = least;
     let mut seen = before;
@@ -96,19 +95,18 @@ fn with_ready(w: Walked, c: TaskMeant) -> OrderWalked
     }
 }
 
-// The walk from the first task on, up to the first that is ready; from there on it looks for none.
-fn walk_from(z: Size, l: &[u8], first: TaskNo) -> OrderWalked
+// The walk from the first task on, of at most so many, up to the first that is ready; from there on it looks for none.
+fn walk_from(z: Size, l: &[u8], first: TaskNo, limit: u32) -> OrderWalked
     requires { ⌜ (total z ≤ length (now l)) × (outside (z .tasks) (first .0) ≡ false) ⌝ }
-    ensures { λ res. ⌜ res ≡ orderFrom z (boardOf z (now (l .entry))) (first .0) ⌝ }
+    ensures { λ res. ⌜ res ≡ orderFrom z (boardOf z (now (l .entry))) limit (first .0) ⌝ }
 {
-    let limit = z.messages as u32;
     let mut k = first;
     let mut low: u8 = 0;
     let mut seen: u32 = 0;
     while seen < limit {
         let t = task_at(z, l, k);
         if t.ready() {
-            return with_ready(walk_on(z, l, k, low, seen), TaskMeant::Task(k));
+            return with_ready(walk_on(z, l, k, low, seen, limit), TaskMeant::Task(k));
         }
         seen += 1;
         let turn = task_turn(z, l, k, low);
@@ -128,9 +126,9 @@ fn walk_from(z: Size, l: &[u8], first: TaskNo) -> OrderWalked
     OrderWalked::Broken
 }
 
-fn walk_tasks(z: Size, l: &[u8]) -> OrderWalked
+fn walk_tasks(z: Size, l: &[u8], most: u32) -> OrderWalked
     requires { ⌜ total z ≤ length (now l) ⌝ }
-    ensures { λ res. ⌜ res ≡ orderFrom z (boardOf z (now (l .entry))) (boardOf z (now (l .entry)) .first) ⌝ }
+    ensures { λ res. ⌜ res ≡ orderFrom z (boardOf z (now (l .entry))) most (boardOf z (now (l .entry)) .first) ⌝ }
 {
     if no_tasks(l) {
         return OrderWalked::Seen {
@@ -142,15 +140,22 @@ fn walk_tasks(z: Size, l: &[u8]) -> OrderWalked
     let TaskMeant::Task(first) = meant else {
         return OrderWalked::Broken;
     };
-    walk_from(z, l, first)
+    walk_from(z, l, first, most)
 }
 
-// R3, where so many tasks are present: the walk saw as many.
+// So many, but no more than the limit.
+fn up_to(limit: u16, n: u16) -> u16
+    ensures { λ res. ⌜ (res ≤ limit) × ((n ≤ limit) → res ≡ n) ⌝ }
+{
+    if n < limit { n } else { limit }
+}
+
+// R3, where so many tasks are present: the walk saw as many. It goes no further than that: links that lead back are soon given up.
 pub fn rule3(z: Size, l: &[u8], present: u16) -> Order
     requires { ⌜ total z ≤ length (now l) ⌝ }
-    ensures { λ res. ⌜ res ≡ listedBy present (orderFrom z (boardOf z (now (l .entry))) (boardOf z (now (l .entry)) .first)) ⌝ }
+    ensures { λ res. ⌜ res ≡ listedBy present (orderFrom z (boardOf z (now (l .entry))) (z .messages) (boardOf z (now (l .entry)) .first)) ⌝ }
 {
-    let walked = walk_tasks(z, l);
+    let walked = walk_tasks(z, l, up_to(z.messages, present) as u32);
     let OrderWalked::Seen { n: seen, c: c } = walked else {
         return Order::Broken;
     };

@@ -41,7 +41,7 @@ alike true t f g = sym (f refl)
 alike false true f g = g refl
 alike false false f g = refl
 
-saw-cond : (t : Bool) (n m : ℕ) → saw (cond t (Seen n) Broken) m ≡ t && eqb n m
+pub saw-cond : (t : Bool) (n m : ℕ) → saw (cond t (Seen n) Broken) m ≡ t && eqb n m
 saw-cond true n m = refl
 saw-cond false n m = refl
 

@@ -107,7 +107,7 @@ module _ (z : Size) (l : List ℕ) where
       kept2 = breaking-nobody z (rule2At b) (sym seen2 ∙ e)
 
       -- so R3 is asked with the number of those present
-      pub order-asked : {o : Order} → o ≡ listedBy (x .present) (orderFrom z b (b .first)) → o ≡ listed z l
+      pub order-asked : {o : Order} → o ≡ listedBy (x .present) (orderFrom z b (z .messages) (b .first)) → o ≡ listed z l
       order-asked eo = eo ∙ order-counted z l (x .present) (ap (λ (t : Tasks). t .present) ex ∙ ap (λ (t : Bool). tasksIf z b t .present) kept2)
 
       seen6 : x .breaks6 ≡ breaking z (rule6At b)
