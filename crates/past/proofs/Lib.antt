@@ -1,0 +1,9 @@
+pub mod Lower
+pub mod Making
+pub mod Sweeping
+pub mod Statuses
+pub mod Stages
+pub mod Alike
+pub mod Mail
+pub mod Crew
+pub mod Parking

@@ -1,0 +1,127 @@
+-- The stages on the way back: what holds of every task record. Rows that refuse nothing.
+-- Assumes nothing.
+use mathlib.Core.Path.{_≡_, refl, sym, ap, _∙_, subst}
+use mathlib.Core.Logic.{_≢_}
+use mathlib.Core.Bool.{true, false, not, true≢false}
+use mathlib.Core.List.{List, [], _∷_}
+use Prim.Native.Nat.{ℕ, suc}
+use native.Mathlib.Omega.{arith}
+use borrow.Author.Tests.{ne-eqb, eq-eqb}
+use Rattle.links.proofs.Bools.{refuted}
+use Rattle.board.specs.declared.numbers.Size.{Size}
+use Rattle.board.specs.declared.status.Status.{Status}
+use Rattle.board.specs.declared.records.Task.{Task}
+use Rattle.board.specs.declared.places.Place.{Place}
+use Rattle.board.specs.declared.places.Place.the-variants.{Free, HeldBy}
+use Rattle.board.specs.Numbers.{taskNo, Numbered}
+use Rattle.board.specs.Places.{isHeldBy}
+use Rattle.board.specs.Status.{IWAT, INTQ, has, isReady}
+use Rattle.board.specs.Records.{Word, noTask, taskWithStat}
+use Rattle.board.specs.Board.{Board, task, message, place}
+use Rattle.board.proofs.Pieces.{within-outside}
+use Rattle.paper.specs.declared.call.Call.{Call}
+use Rattle.paper.specs.declared.call.Call.the-variants.{PostInterrupt, WaitForInterrupt, ReceiveAndWait}
+use Rattle.paper.specs.Rules.{isThere, present, ready}
+use Rattle.paper.specs.Refusals.{Test, no3, no4, no5, no6, ownRow, Go, lowest}
+use Rattle.linked.proofs.Running.{ready-says}
+use Rattle.kept.specs.Claims.{Sizes}
+use Rattle.kept.proofs.Reading.{nth-cases, task-put}
+use Rattle.kept.proofs.Waiting.{task-numbered}
+use Rattle.past.specs.Past.{back}
+use Rattle.past.proofs.Making.{Passing, Makes, go-from}
+use Rattle.past.proofs.Sweeping.{Earlier, Turned}
+use Rattle.past.proofs.Statuses.{restat}
+
+-- ---- a stage: c runs, and Q holds of every task
+pub record Stage (z : Size) (Q : Task → Type 0) (c : ℕ) (b : Board) : Type 0 where
+  pub passing : Passing z b c
+  pub all : (k : ℕ) → Numbered (z .tasks) k → Q (task b k)
+
+-- no interrupt queued
+abbrev pub Quiet : Task → Type 0
+Quiet t = has (t .stat) INTQ ≡ false
+
+-- and no message
+abbrev pub Bare : Task → Type 0
+Bare t = Quiet t × (t .mptr ≡ 0)
+
+-- and not ready
+abbrev pub Still : Task → Type 0
+Still t = Bare t × (isReady (t .stat) ≡ false)
+
+-- waiting for an interrupt, where present
+abbrev pub Parked : Task → Type 0
+Parked t = (t .mptr ≡ 0) × (isThere t ≡ true → has (t .stat) IWAT ≡ true)
+
+-- ---- a turn that changes one status
+module _ (z : Size) (c : ℕ) (Q P : Task → Type 0) (b : Board) (v : Stage z Q c b) (k : ℕ) (n : Numbered (z .tasks) k) (s : Status)
+    (calls : List Call) where
+  pub turn-stat : Q (taskWithStat (task b k) s) → P (taskWithStat (task b k) s) → Passing z (restat b k s) c
+      → Makes z (restat b k s) calls b → Turned z (Stage z Q c) (λ d j. P (task d j)) b k (back (restat b k s) calls)
+  turn-stat q r p m = record {
+    earlier = record {
+      inv = record {
+        passing = p;
+        all = λ j h. nth-cases Q noTask (b .tasks) k j (taskWithStat (task b k) s) (λ e. q) (v .all j h);
+      };
+      makes = m;
+    };
+    simple = subst P (sym (task-put b k (taskWithStat (task b k) s) (rw (v .passing .settled .fits .tasks) n))) r;
+    keeps = λ j h. nth-cases P noTask (b .tasks) k j (taskWithStat (task b k) s) (λ e. r);
+  }
+
+-- ---- rows that refuse nothing
+pub go-post : (z : Size) (y : Board) (c k : ℕ) → Numbered (z .tasks) k → present y k ≡ true → lowest (ownRow z y c (PostInterrupt k)) ≡ Go
+go-post z y c k n p =
+    let o = within-outside (z .tasks) k (n .0) (n .1) in
+    go-from (no6 z y k) [] (rw (o, p)) refl
+
+pub go-wait : (z : Size) (y : Board) (c : ℕ) → c ≢ 0 → lowest (ownRow z y c WaitForInterrupt) ≡ Go
+go-wait z y c h = go-from (no3 c) [] (ne-eqb c 0 h) refl
+
+pub go-receive-wait : (z : Size) (y : Board) (c : ℕ) → c ≢ 0 → lowest (ownRow z y c ReceiveAndWait) ≡ Go
+go-receive-wait z y c h = go-from (no3 c) [] (ne-eqb c 0 h) refl
+
+pub task-word : (z : Size) → Sizes z → (k : ℕ) → Numbered (z .tasks) k → Word k
+task-word z a k n = omega (arith, a .tasks, n .1)
+
+-- the caller holds the message
+pub go-held : (z : Size) (y : Board) (c m : ℕ) (tests : List Test) → c ≢ 0 → Numbered (z .messages) m → place y m ≡ HeldBy (taskNo c)
+    → lowest tests ≡ Go → lowest (no3 c ∷ no4 z m ∷ no5 y c m ∷ tests) ≡ Go
+go-held z y c m tests h n e g =
+    go-from (no3 c) (no4 z m ∷ no5 y c m ∷ tests) (ne-eqb c 0 h)
+    (go-from (no4 z m) (no5 y c m ∷ tests) (within-outside (z .messages) m (n .0) (n .1))
+    (go-from (no5 y c m) tests (ap (λ (p : Place). not (isHeldBy c p)) e ∙ ap not (eq-eqb c c refl)) g))
+
+pub message-word : (z : Size) → Sizes z → (m : ℕ) → Numbered (z .messages) m → Word m
+message-word z a m n = omega (arith, a .links, n .1)
+
+-- ---- where all are parked nobody is ready
+pub parked-still : (z : Size) (c : ℕ) (b : Board) → Stage z Parked c b → (j : ℕ) → ready b j ≡ false
+parked-still z c b v j =
+    refuted (ready b j) (λ r.
+    let t = ready-says b j r in
+    let n = task-numbered z b (v .passing .order) (v .passing .queues) (v .passing .settled) j (t .0) in
+    true≢false (sym (v .all j n .1 (t .0)) ∙ t .2))
+
+-- ---- the stages that say more
+-- no interrupt is queued, and where a message is queued somebody runs
+pub record Led (z : Size) (c : ℕ) (b : Board) : Type 0 where
+  pub stage : Stage z Quiet c b
+  pub runs : (k : ℕ) → Numbered (z .tasks) k → task b k .mptr ≢ 0 → c ≢ 0
+
+-- all are parked, and every task that an RPTR names is there
+pub record Hosted (z : Size) (b : Board) : Type 0 where
+  pub stage : Stage z Parked 0 b
+  pub hosts : (m : ℕ) → message b m .rptr ≢ 0 → present b (message b m .rptr) ≡ true
+
+-- and behind a free message all are free
+pub record Filled (z : Size) (b : Board) : Type 0 where
+  pub hosted : Hosted z b
+  pub behind : (m : ℕ) → Numbered (z .messages) m → place b m ≡ Free → place b (suc m) ≡ Free
+
+-- all are parked, no message is used, and the task queue is q
+pub record Unused (z : Size) (q : List ℕ) (b : Board) : Type 0 where
+  pub stage : Stage z Parked 0 b
+  pub free : (m : ℕ) → Numbered (z .messages) m → place b m ≡ Free
+  pub order : stage .passing .order ≡ q

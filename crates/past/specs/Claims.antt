@@ -1,0 +1,46 @@
+-- Document 02, Ask 4, as statements; their proofs are in proofs/Theorems. A reader must believe this file, and needs passes, run, blank
+-- and Call of paper to read the first.
+--   Reached z l      some list of the nineteen calls, made from the fresh board, ends in the bytes l
+--   HasAPast         a list is the bytes of a board that passes exactly if it is reached
+--   PastRebuilds     the calls that past gives of a board that passes end in its very bytes, and none of them is refused
+--   MadeFresh l calls d   code that meets the contracts of fresh and of the step (Rattle.station, src/lib.rt), lent l, makes it fresh, makes
+--                    these calls and leaves d
+--   CheckedExactly   of code: the check accepts lent bytes exactly if there are calls which, made on a fresh board, leave those bytes
+-- Assumes nothing.
+use mathlib.Core.Path.{_≡_}
+use mathlib.Core.Logic.{_↔_}
+use mathlib.Core.Bool.{true}
+use mathlib.Core.List.{List}
+use Prim.Native.Nat.{ℕ}
+use Rattle.links.specs.Chain.{All}
+use Rattle.board.specs.declared.numbers.Size.{Size}
+use Rattle.board.specs.Board.{boardOf}
+use Rattle.board.specs.Claims.{Bytes}
+use Rattle.paper.specs.declared.call.Call.{Call}
+use Rattle.paper.specs.declared.answer.Answer.{Answer}
+use Rattle.paper.specs.declared.answer.Answer.the-variants.{Accepted}
+use Rattle.paper.specs.Rules.{passes}
+use Rattle.paper.specs.Outcomes.{blank}
+use Rattle.paper.specs.History.{run}
+use Rattle.kept.specs.Settled.{AllFit}
+use Rattle.kept.specs.Claims.{Sizes}
+use Rattle.past.specs.Past.{past}
+
+-- ---- no stricter and no looser than life
+-- AllFit: the arguments are words and bytes, as the code's types hold them
+abbrev pub Reached : Size → List ℕ → Type 0
+Reached z l = (calls : List Call) × AllFit calls × (run z (blank z) calls .after ≡ l)
+
+-- Bytes: a list of bytes, as many as a board has
+abbrev pub HasAPast : Type 0
+HasAPast = (z : Size) → Sizes z → (l : List ℕ) → (Bytes z l × (passes z (boardOf z l) ≡ true)) ↔ Reached z l
+
+-- ---- which past
+abbrev pub IsAccepted : Answer → Type 0
+IsAccepted a = (v : ℕ) × (c : ℕ) × (m : ℕ) × (a ≡ Accepted v c m)
+
+abbrev pub PastRebuilds : Type 0
+PastRebuilds =
+    (z : Size) → Sizes z → (l : List ℕ) → Bytes z l → passes z (boardOf z l) ≡ true
+    → let calls = past z (boardOf z l) in let made = run z (blank z) calls in
+    AllFit calls × (made .after ≡ l) × All IsAccepted (made .answers)
