@@ -7,3 +7,7 @@ pub mod Alike
 pub mod Mail
 pub mod Crew
 pub mod Parking
+pub mod Posting
+pub mod Waking
+pub mod Receiving
+pub mod Stopping
