@@ -109,7 +109,7 @@ module _ (z : Size) (b : Board) (order : List ℕ) (queues : ℕ → List ℕ) (
 
 -- ---- claim
 -- R4 lets a present task hold a message that was free
-free-held : (z : Size) (b : Board) (m c : ℕ) → present b c ≡ true → message b m ≡ noMessage → PlaceGood z b m (HeldBy (taskNo c))
+pub free-held : (z : Size) (b : Board) (m c : ℕ) → present b c ≡ true → message b m ≡ noMessage → PlaceGood z b m (HeldBy (taskNo c))
 free-held z b m c p e = rw e (record { receiver = omega arith; sender = omega arith }, refl, p)
 
 module _ (z : Size) (b : Board) (order : List ℕ) (queues : ℕ → List ℕ) (a : Sizes z) (s : Settled z b order queues) where

@@ -11,3 +11,4 @@ pub mod Posting
 pub mod Waking
 pub mod Receiving
 pub mod Stopping
+pub mod Releasing
