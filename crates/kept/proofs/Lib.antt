@@ -15,3 +15,4 @@ pub mod Framed
 pub mod Bodies
 pub mod Theorems
 pub mod WhoRuns
+pub mod Fresh
