@@ -12,10 +12,10 @@ use Rattle.paper.specs.declared.answer.Answer.{Answer}
 use Rattle.paper.specs.declared.answer.Refusal.the-variants.{WrongLength}
 use Rattle.paper.specs.Refusals.{test, lowest}
 use Rattle.paper.specs.Outcomes.{accepted, judge, blank, effect, fresh}
-use Rattle.paper.specs.History.{run}
+use Rattle.paper.specs.History.{run, Made}
 use Rattle.kept.proofs.Theorems.{small-sizes}
 use Rattle.history.specs.Machine.{start}
-use Rattle.history.specs.Claims.{Agrees, past, Made, CodeAgrees}
+use Rattle.history.specs.Claims.{Agrees, past, CodeAgrees}
 use Rattle.history.proofs.Theorems.{links-agree}
 
 -- a program that meets the contract gives the answers of the definitions and leaves their bytes

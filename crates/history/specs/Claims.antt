@@ -5,7 +5,6 @@
 --                        rankings, every other field is the machine's, and byte 1 is the machine's running task
 --   past z p calls       the machine after these calls, and its answers
 --   LinksAgree           whatever calls are made from the fresh board, all answers agree, one by one, and afterwards the bytes agree
---   Made l calls as d    a program was handed the answers as for these calls and left d of l, each call as the contract of the step says
 --   CodeAgrees           so it is with every program that meets the contracts of fresh and of the step (Rattle.station, src/lib.rt)
 -- Assumes nothing.
 use mathlib.Core.Path.{_≡_}
@@ -25,8 +24,9 @@ use Rattle.board.specs.Board.{boardOf, total, task, message, place}
 use Rattle.paper.specs.declared.call.Call.{Call}
 use Rattle.paper.specs.declared.answer.Answer.{Answer}
 use Rattle.paper.specs.Rules.{nextTask, nextMessage, passes}
-use Rattle.paper.specs.Outcomes.{blank, Ends, effect, fresh}
+use Rattle.paper.specs.Outcomes.{blank, Ends, fresh}
 use Rattle.paper.specs.History as bytes
+use Rattle.paper.specs.History.{Made}
 use Rattle.kept.specs.Settled.{AllFit}
 use Rattle.kept.specs.Claims.{Sizes}
 use Rattle.history.specs.Ranking.{Entry, keep, Ranking, DifferentTimes, Names}
@@ -89,12 +89,6 @@ LinksAgree =
     × Agrees z (bytes.run z (blank z) calls .after) (past z start calls .plain)
 
 -- ---- the same of code
-abbrev pub Made : List ℕ → List Call → List Answer → List ℕ → Type 0
-Made l [] [] d = d ≡ l
-Made l [] (a ∷ answers) d = ⊥
-Made l (call ∷ calls) [] d = ⊥
-Made l (call ∷ calls) (a ∷ answers) d = (m : List ℕ) × Ends a m (effect small l call) × Made m calls answers d
-
 abbrev pub CodeAgrees : Type 0
 CodeAgrees =
     (lent l d : List ℕ) (a : Answer) (calls : List Call) (answers : List Answer)
