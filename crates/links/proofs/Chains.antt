@@ -32,6 +32,13 @@ chain-one next x (y ∷ q) (z ∷ r) c d =
     let e : y ≡ z = sym (c .0) ∙ d .0 in
     ap₂ _∷_ e (chain-one next (next y) q r (c .2) (subst (λ (u : ℕ). Chain next (next u) r) (sym e) (d .2)))
 
+-- links that list the same are the same at the members
+pub chain-links : (f g : ℕ → ℕ) (x y : ℕ) (q : List ℕ) → Chain f x q → Chain g y q → (j : ℕ) → In j q → f j ≡ g j
+chain-links f g x y [] c d j i = absurd i
+chain-links f g x y (h ∷ q) c d j (inl e) =
+    ap f e ∙ chain-first f (f h) q (c .2) ∙ sym (chain-first g (g h) q (d .2)) ∙ ap g (sym e)
+chain-links f g x y (h ∷ q) c d j (inr i) = chain-links f g (f h) (g h) q (c .2) (d .2) j i
+
 -- from any place on it is a chain
 pub chain-from : (next : ℕ → ℕ) (x : ℕ) (a b : List ℕ) → Chain next x (a ++ b) → Chain next (firstOf b) b
 chain-from next x [] b c = subst (λ (z : ℕ). Chain next z b) (chain-first next x b c) c

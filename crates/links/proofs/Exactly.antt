@@ -1,5 +1,5 @@
 -- R3's and R5's 'exactly .. once each': `rearranged q l` says that each number stands as often in q as in l, and `which` lists
--- each that passes, once.
+-- each that passes, once, the least first.
 -- Assumes nothing.
 use mathlib.Core.Path.{_≡_, refl, sym, ap, _∙_}
 use mathlib.Core.Logic.{_≢_, _⊎_, inl, inr, ⊎-elim, _↔_}
@@ -11,7 +11,7 @@ use native.Mathlib.Decide.{ℕ-discrete}
 use lib.Dec.{eqb}
 use lib.ListN.{length, getD}
 use borrow.Author.Tests.{eq-eqb, ne-eqb}
-use Rattle.links.specs.Queue.{isIn, without, consIf, which, rearranged}
+use Rattle.links.specs.Queue.{firstOf, isIn, without, consIf, which, rearranged}
 use Rattle.links.specs.Chain.{In, Out, Once, All}
 use Rattle.links.proofs.Bools.{both, and-true}
 use Rattle.links.proofs.Members.{out-not-in, not-in-out, in-dec, all-in, isIn-in, in-isIn, all-at, all-of}
@@ -197,3 +197,13 @@ which-once f n (y ∷ l) = step (f y) (which-once f (suc n) l)
     step : (t : Bool) → Once (which f (suc n) l) → Once (consIf t n (which f (suc n) l))
     step true d = (not-in-out n (which f (suc n) l) (λ i. omega (arith, in-which y f (suc n) n l i .0)), d)
     step false d = d
+
+-- the first that is listed is the least
+pub which-least : {A : Type 0} (none : A) (f : A → Bool) (n x : ℕ) (l : List A) → In x (which f n l) → firstOf (which f n l) ≤ x
+which-least none f n x [] i = absurd i
+which-least none f n x (y ∷ l) i = step (f y) refl i (which-least none f (suc n) x l)
+  where
+    step : (t : Bool) → f y ≡ t → In x (which f n (y ∷ l)) → (In x (which f (suc n) l) → firstOf (which f (suc n) l) ≤ x)
+        → firstOf (consIf (f y) n (which f (suc n) l)) ≤ x
+    step true e i ih = rw e (in-which none f n x (y ∷ l) i .0)
+    step false e i ih = rw e (ih (rw e at i))

@@ -11,7 +11,7 @@ use borrow.Author.Tests.{leb-true, leb-false, ltb-true, ltb-false, le-leb}
 use Rattle.links.specs.Queue.{firstOf, goesBefore, insert, rising}
 use Rattle.links.specs.Chain.{In, Out, Once, All, Sorted}
 use Rattle.links.proofs.Bools.{both, and-true}
-use Rattle.links.proofs.Members.{out-not-in, out-left, in-middle, once-insert-middle, all-at, all-of, all-map}
+use Rattle.links.proofs.Members.{out-not-in, in-right, out-left, in-middle, once-insert-middle, all-at, all-of, all-map}
 
 -- ---- parts of a queue
 -- those up to the first that goes is true of
@@ -63,6 +63,12 @@ insert-stays goes stays m (x ∷ q) h = step (goes x) refl (sym (h x (inl refl))
         → insert goes m (x ∷ q) ≡ insert stays m (x ∷ q)
     step true e d ih = rw (d, e, insert)
     step false e d ih = rw (d, e, insert) (ap (λ (l : List ℕ). x ∷ l) ih)
+
+-- where it goes before none of them, at the end
+pub insert-end : (goes : ℕ → Bool) (m : ℕ) (q : List ℕ) → ((y : ℕ) → In y q → goes y ≡ false) → insert goes m q ≡ q ++ m ∷ []
+insert-end goes m [] h = refl
+insert-end goes m (x ∷ q) h =
+    rw (h x (inl refl), insert) (ap (λ (l : List ℕ). x ∷ l) (insert-end goes m q (λ y i. h y (inr i))))
 
 -- what holds of any list and the same with m somewhere in it holds of a queue and its insertion
 pub insert-cases : (P : List ℕ → List ℕ → Type 0) (goes : ℕ → Bool) (m : ℕ) (q : List ℕ)
@@ -140,6 +146,14 @@ sorted-insert number f p m (x ∷ q) d h = step (goesBefore f p (number x)) refl
     step false e ih =
         let g : number x ≤ number m = omega (arith, goes-before f p (number x) e) in
         rw (e, insert) (all-insert (λ y. number x ≤ number y) (λ x. goesBefore f p (number x)) m q g (h .0), ih)
+
+-- none before the last of a sorted queue has a greater number than it
+pub sorted-last : (number : ℕ → ℕ) (q : List ℕ) (k : ℕ) → Sorted number (q ++ k ∷ []) → (y : ℕ) → In y q → number y ≤ number k
+sorted-last number [] k s y i = absurd i
+sorted-last number (x ∷ q) k s y (inl e) =
+    subst (λ (w : ℕ). number w ≤ number k) (sym e)
+    (all-at (λ w. number x ≤ number w) (q ++ k ∷ []) (s .0) k (in-right k q (k ∷ []) (inl refl)))
+sorted-last number (x ∷ q) k s y (inr i) = sorted-last number q k (s .1) y i
 
 -- the test says sorted, and none below its bound
 pub rising-sorted : (number : ℕ → ℕ) (low : ℕ) (q : List ℕ) → rising number low q ≡ true

@@ -9,12 +9,12 @@ use native.Mathlib.Omega.{arith}
 use lib.Dec.{eqb}
 use lib.ListN.{length, length-append}
 use borrow.Author.Tests.{eqb-true, eqb-false, eq-eqb, ne-eqb}
-use Rattle.links.specs.Queue.{firstOf, restOf, without}
+use Rattle.links.specs.Queue.{firstOf, restOf, insert, without}
 use Rattle.links.specs.Chain.{In, Out, Once, All, Sorted, Chain}
-use Rattle.links.proofs.Members.{out-not-in, in-dec, in-split, in-middle, in-but, all-at, all-of}
+use Rattle.links.proofs.Members.{out-not-in, in-dec, out-left, in-split, in-middle, in-but, all-at, all-of}
 use Rattle.links.proofs.Members.{once-remove-middle, once-middle-out}
 use Rattle.links.proofs.Chains.{chain-first, chain-out-zero, chain-from}
-use Rattle.links.proofs.Insertion.{before, after, last0, before-after, before-none}
+use Rattle.links.proofs.Insertion.{before, after, last0, before-after, insert-cases, before-none}
 
 -- ---- what is left
 -- the first m goes
@@ -32,6 +32,11 @@ rest-without (x ∷ q) = rw (eq-eqb x x refl, without)
 pub without-out : (m : ℕ) (q : List ℕ) → Out m q → without m q ≡ q
 without-out m [] o = refl
 without-out m (x ∷ q) o = rw (ne-eqb x m (λ e. o .0 (sym e)), without) (ap (λ (l : List ℕ). x ∷ l) (without-out m q (o .1)))
+
+-- one that is put in and taken out again leaves the queue as it was
+pub without-insert : (goes : ℕ → Bool) (m : ℕ) (q : List ℕ) → Out m q → without m (insert goes m q) ≡ q
+without-insert goes m q =
+    insert-cases (λ l r. Out m l → without m r ≡ l) goes m q (λ a b o. without-split m a b (out-left m a b o))
 
 -- what holds where m stands nowhere, and where the first m is taken out of any list, holds of q and what is left
 pub without-cases : (P : List ℕ → List ℕ → Type 0) (m : ℕ) (q : List ℕ)
