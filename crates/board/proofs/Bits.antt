@@ -1,8 +1,9 @@
--- STAT bit by bit, of any status: what is set reads set, what is cleared reads clear, every other bit stays. And bit 0 of PRIO.
--- What is asked of the masks alone is computed: at the bits by name it is `refl`.
+-- STAT bit by bit: what is set reads set, what is cleared reads clear, every other bit stays, and a bit changed and changed back
+-- leaves the status. And bit 0 of PRIO. What is asked of the masks alone, or of every byte, is computed: at the bits by name it
+-- is `refl`.
 -- Assumes nothing.
 use mathlib.Core.Path.{_≡_, refl, sym, ap, ap₂, _∙_}
-use mathlib.Core.Bool.{Bool, true, false, not}
+use mathlib.Core.Bool.{Bool, true, false, not, _||_, true≢false}
 use Prim.Native.Nat.{ℕ, _-_, _/_, _%_, _<_}
 use native.Mathlib.Nat.{mod-lt}
 use native.Mathlib.Omega.{arith}
@@ -12,7 +13,7 @@ use lib.Bits.{and-le-l, or-lt}
 use lib.Dec.{eqb, lit<}
 use borrow.Author.Tests.{eq-eqb, eqb-true}
 use Rattle.board.specs.declared.status.Status.{Status}
-use Rattle.board.specs.Status.{has, withBit, withoutBit, number, fifo, withFifo}
+use Rattle.board.specs.Status.{has, stored, withBit, withoutBit, number, fifo, withFifo}
 use Rattle.board.proofs.EveryByte.{below, below-at}
 
 -- ---- equations of three numbers that go digit by digit
@@ -75,6 +76,14 @@ and-assoc =
     (and-digits (and-digits first second) third) (and-digits first (and-digits second third)) (λ b c. refl) refl
 
 -- ---- a bit set
+-- asked of a byte: set, the bit reads set
+abbrev pub readsSet : ℕ → ℕ → Bool
+readsSet bit x = has (stored (bitOr x bit)) bit
+
+-- the bit reads set
+pub withBit-has : (bit : ℕ) → below (readsSet bit) 256 ≡ true → (s : Status) → s .0 < 256 → has (withBit s bit) bit ≡ true
+withBit-has bit t s h = below-at (readsSet bit) 256 t (s .0) h
+
 -- a bit apart stays
 pub withBit-other : (s : Status) (bit other : ℕ) → bitAnd bit other ≡ 0 → has (withBit s bit) other ≡ has s other
 withBit-other s bit other e =
@@ -99,6 +108,33 @@ withoutBit-other s bit other e =
 -- the status stays a byte
 pub withoutBit-small : (s : Status) (bit : ℕ) → s .0 < 256 → withoutBit s bit .0 < 256
 withoutBit-small s bit h = omega (arith, and-le-l (s .0) (255 - bit))
+
+-- ---- a bit changed and changed back
+or-right : (s t : Bool) → s ≡ false → s || t ≡ true → t ≡ true
+or-right true t e h = absurd (true≢false e)
+or-right false t e h = h
+
+-- asked of a byte: if the bit is set, clearing it and setting it again gives the byte
+abbrev pub setBack : ℕ → ℕ → Bool
+setBack bit x = not (has (stored x) bit) || eqb (bitOr (bitAnd x (255 - bit)) bit) x
+
+-- a bit that was set, cleared and set again gives the status
+pub set-cleared : (bit : ℕ) → below (setBack bit) 256 ≡ true → (s : Status) → s .0 < 256 → has s bit ≡ true
+    → withBit (withoutBit s bit) bit ≡ s
+set-cleared bit t s h e =
+    let r = or-right (not (has s bit)) _ (ap not e) (below-at (setBack bit) 256 t (s .0) h) in
+    ap stored (eqb-true (bitOr (bitAnd (s .0) (255 - bit)) bit) (s .0) r)
+
+-- asked of a byte: if the bit is clear, setting it and clearing it again gives the byte
+abbrev pub clearBack : ℕ → ℕ → Bool
+clearBack bit x = has (stored x) bit || eqb (bitAnd (bitOr x bit) (255 - bit)) x
+
+-- a bit that was clear, set and cleared again gives it
+pub clear-set : (bit : ℕ) → below (clearBack bit) 256 ≡ true → (s : Status) → s .0 < 256 → has s bit ≡ false
+    → withoutBit (withBit s bit) bit ≡ s
+clear-set bit t s h e =
+    let r = or-right (has s bit) _ e (below-at (clearBack bit) 256 t (s .0) h) in
+    ap stored (eqb-true (bitAnd (bitOr (s .0) bit) (255 - bit)) (s .0) r)
 
 -- ---- PRIO
 -- with bit 0 set the number is the same

@@ -1,4 +1,5 @@
--- Records by number, over any element type: what a list reads as when one of its records is written, and when it is mapped.
+-- Records by number, over any element type: what a list reads as when one of its records is written, and when it is mapped; and
+-- that a list is known by what it reads as.
 -- Assumes nothing.
 use mathlib.Core.Path.{_≡_, refl, sym, ap, _∙_}
 use mathlib.Core.Logic.{_≢_}
@@ -6,7 +7,8 @@ use mathlib.Core.List.{List, [], _∷_, map}
 use Prim.Native.Nat.{ℕ, zero, suc, _≤_, _<_}
 use native.Mathlib.Omega.{arith}
 use lib.ListN.{length, getD, set, length-set, List·getD-map, List·getD-eq-default}
-use lib.Seq.{getD-set-same, getD-set-other, set-getD, set-comm, set-out}
+use lib.Seq.{getD-set-same, getD-set-other, set-getD, set-comm, set-out, ext-getD}
+use Rattle.board.specs.Numbers.{Numbered}
 use Rattle.board.specs.Board.{nth, put}
 
 module _ {A : Type 0} where
@@ -59,6 +61,12 @@ module _ {A : Type 0} where
   pub put-beyond : (l : List A) (k : ℕ) (x : A) → length l < k → put l k x ≡ l
   put-beyond l zero x h = refl
   put-beyond l (suc i) x h = set-out l i x (omega arith)
+
+  -- ---- lists record by record
+  -- lists of one length that read the same at every number are the same
+  pub nth-ext : (none : A) (n : ℕ) (l m : List A) → length l ≡ n → length m ≡ n
+      → ((k : ℕ) → Numbered n k → nth none l k ≡ nth none m k) → l ≡ m
+  nth-ext none n l m e d h = ext-getD none l m (e ∙ sym d) (λ i g. h (suc i) (omega arith, omega arith))
 
 -- ---- records mapped
 -- a record of the mapped list is the record mapped
