@@ -39,6 +39,16 @@ module _ {A : Type 0} where
   put-nth none l zero = refl
   put-nth none l (suc i) = set-getD l i none
 
+  -- of two writes of one number the second counts
+  pub put-put : (l : List A) (k : ℕ) (x y : A) → put (put l k x) k y ≡ put l k y
+  put-put l zero x y = refl
+  put-put l (suc i) x y = at l i
+    where
+      at : (l : List A) (i : ℕ) → set (set l i x) i y ≡ set l i y
+      at [] i = refl
+      at (e ∷ l) zero = refl
+      at (e ∷ l) (suc i) = ap (λ (r : List A). e ∷ r) (at l i)
+
   -- writes of two numbers go either way round
   pub put-comm : (l : List A) (k j : ℕ) (x y : A) → k ≢ j → put (put l k x) j y ≡ put (put l j y) k x
   put-comm l zero zero x y h = refl

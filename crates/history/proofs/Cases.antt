@@ -21,7 +21,7 @@ use Rattle.paper.specs.History.{run}
 use Rattle.paper.proofs.Slips.{tiny, ok}
 use Rattle.history.specs.Ranking.{Entry, Ranking}
 use Rattle.history.specs.Machine.{Plain, start}
-use Rattle.history.specs.Claims.{Agrees, played}
+use Rattle.history.specs.Claims.{Agrees, plainRun}
 
 -- ---- only the first linked
 -- task 1 sends itself messages 1 and 2, the first the more urgent
@@ -30,7 +30,7 @@ calls =
     Install 1 0x01 0x31 0 0 ∷ Claim ∷ Claim ∷ Prepare 1 0 0x15 0 ∷ Prepare 2 0 0x17 0 ∷ Send 1 1 ∷ Send 2 1 ∷ []
 
 abbrev machine : Plain
-machine = played tiny start calls .plain
+machine = plainRun tiny start calls .plain
 
 -- the bytes afterwards, but for LINK of message 1: MPTR leads to it, and it leads to no other
 abbrev onlyFirst : List ℕ
@@ -61,7 +61,7 @@ case-only-the-first-linked h =
 -- ---- who runs
 -- task 1 with this PRIO byte and then task 2 with 31H are installed; 1 waits for an interrupt, so 2 runs, and 1 is posted one
 abbrev posted : ℕ → List Answer
-posted prio = played tiny start (Install 1 0x01 prio 0 0 ∷ Install 2 0x01 0x31 0 0 ∷ WaitForInterrupt ∷ PostInterrupt 1 ∷ []) .answers
+posted prio = plainRun tiny start (Install 1 0x01 prio 0 0 ∷ Install 2 0x01 0x31 0 0 ∷ WaitForInterrupt ∷ PostInterrupt 1 ∷ []) .answers
 
 -- of equals the one that runs goes on, though the other is the earlier installed
 case-equal-goes-on : posted 0x31 ≡ ok ∷ ok ∷ Accepted 0 2 0 ∷ Accepted 0 2 0 ∷ []

@@ -15,7 +15,7 @@ use Rattle.paper.specs.Outcomes.{accepted, judge, blank, effect, fresh}
 use Rattle.paper.specs.History.{run, Made}
 use Rattle.kept.proofs.Theorems.{small-sizes}
 use Rattle.history.specs.Machine.{start}
-use Rattle.history.specs.Claims.{Agrees, played, CodeAgrees}
+use Rattle.history.specs.Claims.{Agrees, plainRun, CodeAgrees}
 use Rattle.history.proofs.Theorems.{links-agree}
 
 -- a program that meets the contract gives the answers of the definitions and leaves their bytes
@@ -46,5 +46,5 @@ code-agrees lent l d a calls answers n f w m =
     let t : Made (blank small) calls answers d = subst (λ (x : List ℕ). Made x calls answers d) e m in
     let r = links-agree small small-sizes calls w in (
       made-answers (blank small) d calls answers t ∙ r .0,
-      subst (λ (x : List ℕ). Agrees small x (played small start calls .plain)) (sym (made-bytes (blank small) d calls answers t)) (r .1),
+      subst (λ (x : List ℕ). Agrees small x (plainRun small start calls .plain)) (sym (made-bytes (blank small) d calls answers t)) (r .1),
     )

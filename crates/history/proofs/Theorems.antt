@@ -11,7 +11,7 @@ use Rattle.paper.specs.History as bytes
 use Rattle.kept.specs.Settled.{AllFit}
 use Rattle.kept.specs.Claims.{Sizes}
 use Rattle.history.specs.Machine.{Plain, start, step}
-use Rattle.history.specs.Claims.{Agrees, played, LinksAgree}
+use Rattle.history.specs.Claims.{Agrees, plainRun, LinksAgree}
 use Rattle.history.proofs.Asked.{is-where}
 use Rattle.history.proofs.Same.{same-holds}
 use Rattle.history.proofs.Steps.{Agreeing, call-agrees}
@@ -39,8 +39,8 @@ agreeing-agrees z l p t =
 -- ---- histories
 -- from bytes and a machine that agree, the answers are the same one by one, and bytes and machine agree afterwards
 history-agrees : (z : Size) → Sizes z → (calls : List Call) (l : List ℕ) (p : Plain) → AllFit calls → Agreeing z l p
-    → (bytes.run z l calls .answers ≡ played z p calls .answers)
-    × Agreeing z (bytes.run z l calls .after) (played z p calls .plain)
+    → (bytes.run z l calls .answers ≡ plainRun z p calls .answers)
+    × Agreeing z (bytes.run z l calls .after) (plainRun z p calls .plain)
 history-agrees z a [] l p w t = (refl, t)
 history-agrees z a (call ∷ calls) l p w t =
     let o = call-agrees z a l p call (w .0) t in

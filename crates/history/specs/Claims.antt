@@ -3,7 +3,7 @@
 --   LinksRank next x l   the links from x are exactly the ranking of the entries l, and then 0
 --   Agrees z l p         the bytes l and the plain machine p agree: the board passes, the links from byte 0 and from each MPTR are the
 --                        rankings, every other field is the machine's, and byte 1 is the machine's running task
---   played z p calls     the machine after these calls, and its answers
+--   plainRun z p calls   the machine after these calls, and its answers
 --   LinksAgree           whatever calls are made from the fresh board, all answers agree, one by one, and afterwards the bytes agree
 --   CodeAgrees           so it is with every program that meets the contracts of fresh and of the step (Rattle.station, src/lib.rt)
 -- Assumes nothing.
@@ -71,26 +71,26 @@ pub record Agrees (z : Size) (l : List ℕ) (p : Plain) : Type 0 where
   pub runs : boardOf z l .running ≡ p .running
 
 -- ---- histories
-pub record Played : Type 0 where
+pub record PlainRan : Type 0 where
   pub answers : List Answer
   pub plain : Plain
 
-abbrev pub played : Size → Plain → List Call → Played
-played z p [] = record { answers = []; plain = p }
-played z p (call ∷ calls) =
+abbrev pub plainRun : Size → Plain → List Call → PlainRan
+plainRun z p [] = record { answers = []; plain = p }
+plainRun z p (call ∷ calls) =
     let o = step z p call in
-    let rest = played z (o .plain) calls in
+    let rest = plainRun z (o .plain) calls in
     record { answers = o .answer ∷ rest .answers; plain = rest .plain }
 
 abbrev pub LinksAgree : Type 0
 LinksAgree =
     (z : Size) → Sizes z → (calls : List Call) → AllFit calls
-    → (bytes.run z (blank z) calls .answers ≡ played z start calls .answers)
-    × Agrees z (bytes.run z (blank z) calls .after) (played z start calls .plain)
+    → (bytes.run z (blank z) calls .answers ≡ plainRun z start calls .answers)
+    × Agrees z (bytes.run z (blank z) calls .after) (plainRun z start calls .plain)
 
 -- ---- the same of code
 abbrev pub CodeAgrees : Type 0
 CodeAgrees =
     (lent l d : List ℕ) (a : Answer) (calls : List Call) (answers : List Answer)
     → length lent ≡ total small → Ends a l (fresh small lent) → AllFit calls → Made l calls answers d
-    → (answers ≡ played small start calls .answers) × Agrees small d (played small start calls .plain)
+    → (answers ≡ plainRun small start calls .answers) × Agrees small d (plainRun small start calls .plain)

@@ -11,7 +11,7 @@ use lib.ListN.{length}
 use Rattle.links.specs.Queue.{firstOf}
 use Rattle.links.specs.Chain.{In, Out, All, Chain}
 use Rattle.links.proofs.Members.{in-dec, out-not-in}
-use Rattle.links.proofs.Chains.{chain-first}
+use Rattle.links.proofs.Chains.{chain-first, chain-links}
 use Rattle.board.specs.declared.numbers.Size.{Size}
 use Rattle.board.specs.declared.records.Task.{Task}
 use Rattle.board.specs.declared.records.Message.{Message}
@@ -20,12 +20,12 @@ use Rattle.board.specs.declared.places.Place.the-variants.{Free, HeldBy, Queued
 use Rattle.board.specs.Numbers.{Numbered}
 use Rattle.board.specs.Records.{noTask, noMessage, taskWithLink, taskWithMptr, withLink}
 use Rattle.board.specs.Board.{Board, board, task, message, place}
+use Rattle.board.proofs.Numbered.{nth-ext}
 use Rattle.paper.specs.Rules.{isThere, present, nextTask, nextMessage}
 use Rattle.linked.specs.Sound.{PlaceGood}
 use Rattle.kept.specs.Settled.{Settled}
 use Rattle.kept.proofs.Reading.{absent-none}
 use Rattle.kept.proofs.Waiting.{task-numbered}
-use Rattle.past.proofs.Lower.{chain-links, nth-ext}
 
 -- a record without its links
 abbrev pub sheet : Task → Task

@@ -1,4 +1,3 @@
-pub mod Lower
 pub mod Making
 pub mod Sweeping
 pub mod Statuses

@@ -14,7 +14,7 @@ use Rattle.board.specs.declared.status.Status.{Status}
 use Rattle.board.specs.Numbers.{Numbered}
 use Rattle.board.specs.Status.{WAIT, IWAT, INTQ, MHBS, TCBB, has, withBit, withoutBit, isReady}
 use Rattle.board.specs.Board.{Board, task, withRunning}
-use Rattle.board.proofs.Bits.{withoutBit-has, withoutBit-other}
+use Rattle.board.proofs.Bits.{withoutBit-has, withoutBit-other, set-cleared}
 use Rattle.paper.specs.declared.call.Call.the-variants.{PostInterrupt, WaitForInterrupt}
 use Rattle.paper.specs.Rules.{present, ready, taskNumber}
 use Rattle.paper.specs.Changes.{sets, clears}
@@ -25,7 +25,6 @@ use Rattle.kept.specs.Settled.{Settled}
 use Rattle.kept.specs.Claims.{Sizes}
 use Rattle.kept.proofs.Flagging.{settled-post}
 use Rattle.kept.proofs.Dispatching.{settled-running, runs-byte}
-use Rattle.past.proofs.Lower.{set-cleared}
 use Rattle.past.proofs.Making.{Passing, Makes, makes-call}
 use Rattle.past.proofs.Statuses.{is-ready, ready-one, restat-stat, restat-undone, flag-there}
 use Rattle.past.proofs.Stages.{go-post, go-wait, task-word}

@@ -12,7 +12,7 @@ use Rattle.board.specs.declared.records.Task.{Task}
 use Rattle.board.specs.Numbers.{Numbered}
 use Rattle.board.specs.Status.{WAIT, IWAT, INTQ, MHBS, TCBB, has, withBit, withoutBit, isReady, number}
 use Rattle.board.specs.Board.{Board, task}
-use Rattle.board.proofs.Bits.{withoutBit-has, withoutBit-other}
+use Rattle.board.proofs.Bits.{withoutBit-has, withoutBit-other, set-cleared}
 use Rattle.paper.specs.declared.call.Call.the-variants.{PostInterrupt}
 use Rattle.paper.specs.Rules.{isThere, present}
 use Rattle.paper.specs.Changes.{clears}
@@ -23,7 +23,6 @@ use Rattle.kept.specs.Claims.{Sizes}
 use Rattle.kept.proofs.Reading.{task-alike}
 use Rattle.kept.proofs.Flagging.{flags-alike, apart-INTQ, settled-clears}
 use Rattle.past.specs.Past.{Back, back, here, posted}
-use Rattle.past.proofs.Lower.{set-cleared}
 use Rattle.past.proofs.Making.{Passing, Makes, makes-call}
 use Rattle.past.proofs.Sweeping.{Turned, turned-here}
 use Rattle.past.proofs.Statuses.{restat-undone, flag-there}

@@ -16,7 +16,7 @@ use Rattle.board.specs.Numbers.{Numbered}
 use Rattle.board.specs.Status.{WAIT, IWAT, INTQ, MHBS, TCBB, has, withBit, withoutBit, isReady}
 use Rattle.board.specs.Records.{noTask, taskWithStat}
 use Rattle.board.specs.Board.{Board, task, withRunning}
-use Rattle.board.proofs.Bits.{withoutBit-has, withoutBit-other}
+use Rattle.board.proofs.Bits.{withoutBit-has, withoutBit-other, set-cleared}
 use Rattle.paper.specs.declared.call.Call.the-variants.{PostInterrupt, ReceiveAndWait}
 use Rattle.paper.specs.Rules.{present, ready, emptyQueue}
 use Rattle.paper.specs.Changes.{sets, clears}
@@ -28,7 +28,6 @@ use Rattle.kept.proofs.Reading.{nth-cases, task-other, task-alike}
 use Rattle.kept.proofs.Flagging.{flags-ready, apart-WAIT, settled-clears}
 use Rattle.kept.proofs.Dispatching.{settled-running, runs-byte}
 use Rattle.past.specs.Past.{Back, back, here, waited}
-use Rattle.past.proofs.Lower.{set-cleared}
 use Rattle.past.proofs.Making.{Passing, Makes, makes-then, makes-call}
 use Rattle.past.proofs.Sweeping.{Turned, turned-here}
 use Rattle.past.proofs.Statuses.{is-ready, ready-one, restat-stat, restat-undone, flag-there}

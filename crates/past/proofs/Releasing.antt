@@ -17,7 +17,7 @@ use Rattle.board.specs.Status.{IWAT, has}
 use Rattle.board.specs.Places.{isFree, isQueued}
 use Rattle.board.specs.Records.{noMessage}
 use Rattle.board.specs.Board.{Board, board, put, task, message, place, withPlace, withRunning}
-use Rattle.board.proofs.Numbered.{put-nth}
+use Rattle.board.proofs.Numbered.{put-nth, put-put}
 use Rattle.paper.specs.declared.call.Call.the-variants.{PostInterrupt, Release, WaitForInterrupt}
 use Rattle.paper.specs.Rules.{present, ready}
 use Rattle.paper.specs.Changes.{clears}
@@ -31,7 +31,6 @@ use Rattle.kept.proofs.Reading.{place-put, place-other}
 use Rattle.kept.proofs.Holding.{free-held, settled-place, held-good, held-fits}
 use Rattle.kept.proofs.Waiting.{task-numbered, queued-starts}
 use Rattle.past.specs.Past.{Back, back, here, holder, released}
-use Rattle.past.proofs.Lower.{put-put}
 use Rattle.past.proofs.Making.{Passing, Makes, makes-then, makes-call}
 use Rattle.past.proofs.Sweeping.{Turned, turned-here}
 use Rattle.past.proofs.Stages.{Stage, Parked, Hosted, parked-still, go-held, message-word}

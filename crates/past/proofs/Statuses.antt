@@ -13,10 +13,9 @@ use Rattle.board.specs.Numbers.{Numbered}
 use Rattle.board.specs.Status.{WAIT, IWAT, TCBB, has, stored, isReady}
 use Rattle.board.specs.Records.{noTask, taskWithStat}
 use Rattle.board.specs.Board.{Board, task, withTask, withTasks}
-use Rattle.board.proofs.Numbered.{put-nth}
+use Rattle.board.proofs.Numbered.{put-nth, put-put}
 use Rattle.paper.specs.Rules.{isThere, ready}
 use Rattle.kept.proofs.Reading.{task-put, task-other, Lawful}
-use Rattle.past.proofs.Lower.{put-put}
 
 -- ---- the status of task k written
 abbrev pub restat : Board → ℕ → Status → Board

@@ -18,7 +18,7 @@ use Rattle.board.specs.Numbers.{Numbered}
 use Rattle.board.specs.Status.{WAIT, IWAT, INTQ, MHBS, TCBB, has, withBit, withoutBit, isReady, number}
 use Rattle.board.specs.Records.{noTask, taskWithStat}
 use Rattle.board.specs.Board.{Board, task, withRunning}
-use Rattle.board.proofs.Bits.{withBit-other}
+use Rattle.board.proofs.Bits.{withBit-other, clear-set, withBit-has}
 use Rattle.paper.specs.declared.call.Call.the-variants.{PostInterrupt}
 use Rattle.paper.specs.Rules.{isThere, present, taskNumber, ready}
 use Rattle.paper.specs.Changes.{sets, clears}
@@ -33,7 +33,6 @@ use Rattle.kept.proofs.Reading.{nth-cases, task-put, task-other, task-alike}
 use Rattle.kept.proofs.Flagging.{flags-parked, apart-IWAT, settled-sets}
 use Rattle.kept.proofs.Dispatching.{settled-running}
 use Rattle.past.specs.Past.{Back, back, here, readied, started}
-use Rattle.past.proofs.Lower.{clear-set, withBit-has}
 use Rattle.past.proofs.Making.{Passing, Makes, makes-call}
 use Rattle.past.proofs.Sweeping.{Earlier, is-here, Turned, turned-here}
 use Rattle.past.proofs.Statuses.{unready, restat-stat, restat-undone}
