@@ -91,7 +91,7 @@ module _ (z : Size) (b : Board) (order : List ℕ) (queues : ℕ → List ℕ) (
       }
 
   -- the flags of r are to be settled
-  out-settled : Pending z (hold (withQueue b r (without m (queues r))) c m) order (changed queues r (without m (queues r))) r
+  pub out-settled : Pending z (hold (withQueue b r (without m (queues r))) c m) order (changed queues r (without m (queues r))) r
       (task b r .mptr ≡ 0)
   out-settled =
       subst (λ (s : Board). Pending z (hold s c m) order (changed queues r q) r (task b r .mptr ≡ 0)) (sym (requeued-is b r q))

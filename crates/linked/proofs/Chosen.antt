@@ -45,6 +45,18 @@ runs-alike b d c r n h = record {
   };
 }
 
+-- where fewer are ready, and c still is, c still runs rightly
+pub fewer-runs : (b d : Board) (c : ℕ) → ((j : ℕ) → ready d j ≡ true → ready b j ≡ true)
+    → ((j : ℕ) → taskNumber d j ≡ taskNumber b j) → ready d c ≡ true → RunsRightly b c → RunsRightly d c
+fewer-runs b d c h n e r = record {
+  nobody = ((λ i. absurd (true≢false (sym (h c e) ∙ r .nobody .0 i c))), λ f. absurd (true≢false (sym e ∙ f c)));
+  leads = λ i. record { awake = e; smallest = λ j f. omega (arith, n c, n j, r .leads i .smallest j (h j f)) };
+}
+
+-- where nobody is ready nobody runs
+pub none-runs : (b : Board) → ((j : ℕ) → ready b j ≡ false) → RunsRightly b 0
+none-runs b h = record { nobody = ((λ e. h), λ g. refl); leads = λ n. absurd (n refl) }
+
 -- R3 is one of R2 to R6
 pub rules3 : (z : Size) (b : Board) → rules2to6 z b ≡ true → rule3 z b ≡ true
 rules3 z b =
@@ -101,6 +113,14 @@ module _ (z : Size) (b : Board) (tasks : length (b .tasks) ≡ z .tasks) where
     nobody = ((λ e. absurd (leads-somebody c l e)), λ h. absurd (true≢false (sym (l .awake) ∙ h c)));
     leads = λ n. l;
   }
+
+  -- so does the only one that is ready
+  pub only-runs : (c : ℕ) → ready b c ≡ true → ((j : ℕ) → ready b j ≡ true → j ≡ c) → RunsRightly b c
+  only-runs c e h =
+      leads-runs c (record {
+        awake = e;
+        smallest = λ j r. subst (λ (k : ℕ). taskNumber b c ≤ taskNumber b k) (sym (h j r)) (omega arith);
+      })
 
   pub says-rule7 : let c = b .running in Says (rule7 z b) (RunsRightly b c × (has (task b c .stat) MHBS ≡ false))
   says-rule7 = step (nobodyReady z b) refl says-nobodyReady

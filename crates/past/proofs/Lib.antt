@@ -11,3 +11,5 @@ pub mod Waking
 pub mod Receiving
 pub mod Stopping
 pub mod Releasing
+pub mod Forwarding
+pub mod Leaving

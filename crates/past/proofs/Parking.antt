@@ -20,7 +20,7 @@ use Rattle.paper.specs.Rules.{present, ready, taskNumber}
 use Rattle.paper.specs.Changes.{sets, clears}
 use Rattle.paper.specs.Effects.{post, waitInterrupt}
 use Rattle.linked.specs.Sound.{RunsRightly}
-use Rattle.linked.proofs.Chosen.{leads-runs}
+use Rattle.linked.proofs.Chosen.{only-runs}
 use Rattle.kept.specs.Settled.{Settled}
 use Rattle.kept.specs.Claims.{Sizes}
 use Rattle.kept.proofs.Flagging.{settled-post}
@@ -28,20 +28,6 @@ use Rattle.kept.proofs.Dispatching.{settled-running, runs-byte}
 use Rattle.past.proofs.Making.{Passing, Makes, makes-call}
 use Rattle.past.proofs.Statuses.{is-ready, ready-one, restat-stat, restat-undone, flag-there}
 use Rattle.past.proofs.Stages.{go-post, go-wait, task-word}
-
--- ---- who runs rightly
--- nobody, where nobody is ready
-pub none-rightly : (b : Board) → ((j : ℕ) → ready b j ≡ false) → RunsRightly b 0
-none-rightly b h = record { nobody = ((λ e. h), λ g. refl); leads = λ n. absurd (n refl) }
-
--- the only one that is
-pub only-rightly : (z : Size) (b : Board) → length (b .tasks) ≡ z .tasks → (k : ℕ) → ready b k ≡ true
-    → ((j : ℕ) → ready b j ≡ true → j ≡ k) → RunsRightly b k
-only-rightly z b n k e h =
-    leads-runs z b n k (record {
-      awake = e;
-      smallest = λ j r. subst (λ (w : ℕ). taskNumber b k ≤ taskNumber b w) (sym (h j r)) (omega arith);
-    })
 
 -- byte 1 as it is
 pub runs-same : (b : Board) (c : ℕ) → b .running ≡ c → b ≡ withRunning b c
@@ -93,7 +79,7 @@ module _ (z : Size) (a : Sizes z) (b : Board) (p : Passing z b 0) (still : (j : 
   woken-only = ready-one b k _ still
 
   pub woken-rightly : RunsRightly (clears b k IWAT) k
-  woken-rightly = only-rightly z d (settled-d .fits .tasks) k woken-ready woken-only
+  woken-rightly = only-runs z d (settled-d .fits .tasks) k woken-ready woken-only
 
   pub settled-awoken : Settled z (awoken b k) (p .order) (p .queues)
   settled-awoken =
@@ -105,7 +91,7 @@ module _ (z : Size) (a : Sizes z) (b : Board) (p : Passing z b 0) (still : (j : 
     queues = p .queues;
     settled = settled-awoken;
     runs = refl;
-    rightly = only-rightly z y (settled-d .fits .tasks) k woken-ready woken-only;
+    rightly = only-runs z y (settled-d .fits .tasks) k woken-ready woken-only;
     idle = ap (λ (x : Status). has x MHBS) stat-d ∙ withoutBit-other s IWAT MHBS refl ∙ st .flags k n .parked e .1;
   }
 

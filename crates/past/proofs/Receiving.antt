@@ -21,7 +21,7 @@ use Rattle.paper.specs.declared.call.Call.the-variants.{PostInterrupt, ReceiveA
 use Rattle.paper.specs.Rules.{present, ready, emptyQueue}
 use Rattle.paper.specs.Changes.{sets, clears}
 use Rattle.paper.specs.Effects.{waits}
-use Rattle.linked.proofs.Chosen.{ready-numbered}
+use Rattle.linked.proofs.Chosen.{ready-numbered, only-runs}
 use Rattle.kept.specs.Settled.{Settled}
 use Rattle.kept.specs.Claims.{Sizes}
 use Rattle.kept.proofs.Reading.{nth-cases, task-other, task-alike}
@@ -32,7 +32,7 @@ use Rattle.past.proofs.Making.{Passing, Makes, makes-then, makes-call}
 use Rattle.past.proofs.Sweeping.{Turned, turned-here}
 use Rattle.past.proofs.Statuses.{is-ready, ready-one, restat-stat, restat-undone, flag-there}
 use Rattle.past.proofs.Stages.{Stage, Bare, Still, Parked, go-receive-wait}
-use Rattle.past.proofs.Parking.{only-rightly, runs-same}
+use Rattle.past.proofs.Parking.{runs-same}
 use Rattle.past.proofs.Waking.{still-w, makes-start, slept-parked}
 
 module _ (z : Size) (a : Sizes z) (k : ℕ) (b : Board) (n : Numbered (z .tasks) k) (v : Stage z Still 0 b)
@@ -90,9 +90,9 @@ module _ (z : Size) (a : Sizes z) (k : ℕ) (b : Board) (n : Numbered (z .tasks)
       order = p .order;
       queues = p .queues;
       settled = settled-running z d (p .order) (p .queues) k
-          (runs-byte z d (p .order) (p .queues) a settled-d k (only-rightly z d (settled-d .fits .tasks) k ready-d only)) settled-d;
+          (runs-byte z d (p .order) (p .queues) a settled-d k (only-runs z d (settled-d .fits .tasks) k ready-d only)) settled-d;
       runs = refl;
-      rightly = only-rightly z y (settled-d .fits .tasks) k ready-d only;
+      rightly = only-runs z y (settled-d .fits .tasks) k ready-d only;
       idle = ap (λ (x : Status). has x MHBS) stat-d ∙ idle;
     };
     all = λ j h. nth-cases Bare noTask (b .tasks) k j (taskWithStat (task b k) (withoutBit s WAIT))

@@ -25,6 +25,7 @@ use Rattle.paper.specs.Effects.{release}
 use Rattle.linked.specs.Sound.{PlaceGood}
 use Rattle.linked.proofs.Tests.{says-isFree}
 use Rattle.linked.proofs.Running.{placed-numbered}
+use Rattle.linked.proofs.Chosen.{none-runs}
 use Rattle.kept.specs.Settled.{Settled}
 use Rattle.kept.specs.Claims.{Sizes}
 use Rattle.kept.proofs.Reading.{place-put, place-other}
@@ -34,7 +35,7 @@ use Rattle.past.specs.Past.{Back, back, here, holder, released}
 use Rattle.past.proofs.Making.{Passing, Makes, makes-then, makes-call}
 use Rattle.past.proofs.Sweeping.{Turned, turned-here}
 use Rattle.past.proofs.Stages.{Stage, Parked, Hosted, parked-still, go-held, message-word}
-use Rattle.past.proofs.Parking.{awoken, none-rightly, passing-awoken, makes-wait, makes-wake}
+use Rattle.past.proofs.Parking.{awoken, passing-awoken, makes-wait, makes-wake}
 
 -- where no message is queued, one that isn't free is held
 pub used-held : (z : Size) (b : Board) → Stage z Parked 0 b → (m : ℕ) → place b m ≢ Free → (k : ℕ) × (place b m ≡ HeldBy (taskNo k))
@@ -89,7 +90,7 @@ module _ (z : Size) (a : Sizes z) (m : ℕ) (b : Board) (n : Numbered (z .messag
     queues = p .queues;
     settled = settled-y;
     runs = p .runs;
-    rightly = none-rightly y still;
+    rightly = none-runs y still;
     idle = refl;
   }
 

@@ -26,7 +26,7 @@ use Rattle.paper.specs.Changes.{sets, clears}
 use Rattle.paper.proofs.Which.{nth-numbered}
 use Rattle.linked.specs.Sound.{RunsRightly}
 use Rattle.linked.proofs.Running.{ready-says}
-use Rattle.linked.proofs.Chosen.{ready-numbered, leads-runs}
+use Rattle.linked.proofs.Chosen.{fewer-runs, none-runs, ready-numbered}
 use Rattle.kept.specs.Settled.{Settled}
 use Rattle.kept.specs.Claims.{Sizes}
 use Rattle.kept.proofs.Reading.{nth-cases, task-put, task-other, task-alike}
@@ -37,7 +37,7 @@ use Rattle.past.proofs.Making.{Passing, Makes, makes-call}
 use Rattle.past.proofs.Sweeping.{Earlier, is-here, Turned, turned-here}
 use Rattle.past.proofs.Statuses.{unready, restat-stat, restat-undone}
 use Rattle.past.proofs.Stages.{Stage, Bare, Still, go-post, task-word}
-use Rattle.past.proofs.Parking.{none-rightly, runs-same, awoken, makes-wake}
+use Rattle.past.proofs.Parking.{runs-same, awoken, makes-wake}
 
 -- with no message queued nobody is due one
 pub none-due : (z : Size) (b : Board) (order : List ℕ) (queues : ℕ → List ℕ) → Settled z b order queues
@@ -49,17 +49,6 @@ none-due z b order queues s h c = refuted (has (task b c .stat) MHBS) (λ e. ste
 
     step : has (task b c .stat) MHBS ≡ true → Numbered (z .tasks) c → ⊥
     step e n = s .flags c n .due e (h c n)
-
--- where fewer are ready, and c still is, c still runs rightly
-pub fewer-rightly : (z : Size) (b d : Board) (c : ℕ) → ((j : ℕ) → ready d j ≡ true → ready b j ≡ true)
-    → ((j : ℕ) → taskNumber d j ≡ taskNumber b j) → ready d c ≡ true → RunsRightly b c → RunsRightly d c
-fewer-rightly z b d c h n e r = record {
-  nobody = ((λ i. absurd (true≢false (sym (h c e) ∙ r .nobody .0 i c))), λ g. absurd (true≢false (sym e ∙ g c)));
-  leads = λ i. record {
-    awake = e;
-    smallest = λ j g. let x = r .leads i .smallest j (h j g) in omega (arith, n c, n j, x);
-  };
-}
 
 -- ---- k is ready and no message is queued: it is parked instead
 module _ (z : Size) (a : Sizes z) (c k : ℕ) (b : Board) (n : Numbered (z .tasks) k) (v : Stage z Bare c b) (e : ready b k ≡ true) where
@@ -128,7 +117,7 @@ module _ (z : Size) (a : Sizes z) (c k : ℕ) (b : Board) (n : Numbered (z .task
       queues = p .queues;
       settled = settled-slept;
       runs = p .runs;
-      rightly = fewer-rightly z b y c slept-fewer (λ j. task-alike (λ (x : Task). number (x .prio)) b k j t refl)
+      rightly = fewer-runs b y c slept-fewer (λ j. task-alike (λ (x : Task). number (x .prio)) b k j t refl)
           (ap (λ (x : Task). isReady (x .stat)) (task-other b k c t (λ d. other (sym d))) ∙ up) (p .rightly);
       idle = idle-y c;
     }
@@ -154,7 +143,7 @@ module _ (z : Size) (a : Sizes z) (c k : ℕ) (b : Board) (n : Numbered (z .task
       queues = p .queues;
       settled = settled-running z y (p .order) (p .queues) 0 (omega arith) settled-slept;
       runs = refl;
-      rightly = none-rightly w still;
+      rightly = none-runs w still;
       idle = refl;
     }
 
