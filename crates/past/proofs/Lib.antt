@@ -13,3 +13,6 @@ pub mod Stopping
 pub mod Releasing
 pub mod Forwarding
 pub mod Leaving
+pub mod Addressing
+pub mod Claiming
+pub mod Installing
