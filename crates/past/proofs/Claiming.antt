@@ -3,7 +3,7 @@
 -- Assumes nothing.
 use mathlib.Core.Path.{_≡_, refl, sym, ap, _∙_, subst}
 use mathlib.Core.Logic.{_≢_, inl}
-use mathlib.Core.Bool.{true, false, true≢false}
+use mathlib.Core.Bool.{Bool, true, false, true≢false}
 use mathlib.Core.List.{List, [], _∷_, _++_}
 use Prim.Native.Nat.{ℕ, zero, suc, _-_, _≤_, _<_}
 use native.Mathlib.Omega.{arith}
@@ -34,6 +34,7 @@ use Rattle.paper.specs.Rules.{present, ready}
 use Rattle.paper.specs.Effects.{lowestFree, claim, release, prepare}
 use Rattle.paper.specs.Refusals.{no3, no11, no14, ownRow, Go, lowest}
 use Rattle.linked.specs.Sound.{PlaceGood}
+use Rattle.linked.proofs.Tests.{says-isFree}
 use Rattle.linked.proofs.Running.{lowest-free}
 use Rattle.linked.proofs.Chosen.{runs-alike, none-runs}
 use Rattle.kept.specs.Settled.{Settled}
@@ -44,7 +45,7 @@ use Rattle.kept.proofs.Waiting.{task-numbered, queued-starts}
 use Rattle.past.specs.Past.{addressed, claimed}
 use Rattle.past.proofs.Making.{Passing, Makes, makes-then, makes-call, go-from}
 use Rattle.past.proofs.Sweeping.{Turned, turned-here, Above}
-use Rattle.past.proofs.Stages.{Filled, parked-still, go-held, message-word}
+use Rattle.past.proofs.Stages.{Filled, parked-still, used-held, go-held, message-word}
 use Rattle.past.proofs.Parking.{awoken, settled-awoken, passing-awoken, makes-wait, makes-wake}
 use Rattle.past.proofs.Addressing.{addressedTo, settled-addressed, makes-addressed}
 
@@ -302,18 +303,12 @@ module _ (z : Size) (a : Sizes z) (m : ℕ) (b : Board) (mn : Numbered (z .messa
 -- a message that is held was free before; where it is free nothing happened
 pub turn-claimed : (z : Size) → Sizes z → (m : ℕ) (b : Board) → Numbered (z .messages) m → Filled z b
     → Above (λ d j. place d j ≡ Free) (z .messages) m b → Turned z (Filled z) (λ d j. place d j ≡ Free) b m (claimed b m)
-turn-claimed z a m b n v above = step (place b m) refl (s .regular .places m n)
+turn-claimed z a m b n v above = step (isFree (place b m)) refl
   where
-    p : Passing z b 0
-    p = v .hosted .stage .passing
-
-    s : Settled z b (p .order) (p .queues)
-    s = p .settled
-
-    step : (x : Place) → place b m ≡ x → PlaceGood z b m x → Turned z (Filled z) (λ d j. place d j ≡ Free) b m (claimed b m)
-    step Free e g = rw e (turned-here z (Filled z) (λ d j. place d j ≡ Free) b m v e)
-    step (HeldBy t) e g = turn-held z a m b n v above (t .0) e
-    step (QueuedAt t) e g =
-        let i = task-numbered z b (p .order) (p .queues) s (t .0) (g .3) in
-        absurd (queued-starts z b (p .order) (p .queues) (s .regular .linked) (t .0) m i e (v .hosted .stage .all (t .0) i .0))
-    step (Nowhere t) e g = absurd g
+    step : (t : Bool) → isFree (place b m) ≡ t → Turned z (Filled z) (λ d j. place d j ≡ Free) b m (claimed b m)
+    step true e =
+        let h = says-isFree (place b m) .0 e in
+        rw h (turned-here z (Filled z) (λ d j. place d j ≡ Free) b m v h)
+    step false e =
+        let (k, h) = used-held z b (v .hosted .stage) m (λ d. true≢false (sym (says-isFree (place b m) .1 d) ∙ e)) in
+        turn-held z a m b n v above k h

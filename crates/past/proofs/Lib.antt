@@ -16,3 +16,4 @@ pub mod Leaving
 pub mod Addressing
 pub mod Claiming
 pub mod Installing
+pub mod WayBack

@@ -34,24 +34,8 @@ use Rattle.kept.proofs.Waiting.{task-numbered, queued-starts}
 use Rattle.past.specs.Past.{Back, back, here, holder, released}
 use Rattle.past.proofs.Making.{Passing, Makes, makes-then, makes-call}
 use Rattle.past.proofs.Sweeping.{Turned, turned-here}
-use Rattle.past.proofs.Stages.{Stage, Parked, Hosted, parked-still, go-held, message-word}
+use Rattle.past.proofs.Stages.{Hosted, parked-still, used-held, go-held, message-word}
 use Rattle.past.proofs.Parking.{awoken, passing-awoken, makes-wait, makes-wake}
-
--- where no message is queued, one that isn't free is held
-pub used-held : (z : Size) (b : Board) → Stage z Parked 0 b → (m : ℕ) → place b m ≢ Free → (k : ℕ) × (place b m ≡ HeldBy (taskNo k))
-used-held z b v m h =
-    let p = v .passing in
-    let s = p .settled in
-    step s (place b m) refl (s .regular .places m (rw (s .fits .places) at (placed-numbered b m h)))
-  where
-    step : Settled z b (v .passing .order) (v .passing .queues) → (x : Place) → place b m ≡ x → PlaceGood z b m x
-        → (k : ℕ) × (place b m ≡ HeldBy (taskNo k))
-    step s Free e g = absurd (h e)
-    step s (HeldBy t) e g = (t .0, e)
-    step s (QueuedAt t) e g =
-        let n = task-numbered z b (v .passing .order) (v .passing .queues) s (t .0) (g .3) in
-        absurd (queued-starts z b (v .passing .order) (v .passing .queues) (s .regular .linked) (t .0) m n e (v .all (t .0) n .0))
-    step s (Nowhere x) e g = absurd g
 
 module _ (z : Size) (a : Sizes z) (m : ℕ) (b : Board) (n : Numbered (z .messages) m) (v : Hosted z b) (e : place b m ≡ Free)
     (k : ℕ) (next : place b (suc m) ≡ HeldBy (taskNo k)) where

@@ -6,27 +6,32 @@ use mathlib.Core.Bool.{true, false, not, true≢false}
 use mathlib.Core.List.{List, [], _∷_}
 use Prim.Native.Nat.{ℕ, suc}
 use native.Mathlib.Omega.{arith}
+use lib.Dec.{eqb}
 use borrow.Author.Tests.{ne-eqb, eq-eqb}
 use Rattle.links.proofs.Bools.{refuted}
 use Rattle.board.specs.declared.numbers.Size.{Size}
 use Rattle.board.specs.declared.status.Status.{Status}
 use Rattle.board.specs.declared.records.Task.{Task}
+use Rattle.board.specs.declared.records.Message.{Message}
 use Rattle.board.specs.declared.places.Place.{Place}
-use Rattle.board.specs.declared.places.Place.the-variants.{Free, HeldBy}
+use Rattle.board.specs.declared.places.Place.the-variants.{Free, HeldBy, QueuedAt, Nowhere}
 use Rattle.board.specs.Numbers.{taskNo, Numbered}
 use Rattle.board.specs.Places.{isHeldBy}
 use Rattle.board.specs.Status.{IWAT, INTQ, has, isReady}
-use Rattle.board.specs.Records.{Word, noTask, taskWithStat}
+use Rattle.board.specs.Records.{Word, noTask, noMessage, taskWithStat}
 use Rattle.board.specs.Board.{Board, task, message, place}
 use Rattle.board.proofs.Pieces.{within-outside}
 use Rattle.paper.specs.declared.call.Call.{Call}
 use Rattle.paper.specs.declared.call.Call.the-variants.{PostInterrupt, WaitForInterrupt, ReceiveAndWait}
 use Rattle.paper.specs.Rules.{isThere, present, ready}
 use Rattle.paper.specs.Refusals.{Test, no3, no4, no5, no6, ownRow, Go, lowest}
-use Rattle.linked.proofs.Running.{ready-says}
+use Rattle.paper.proofs.Which.{nth-numbered}
+use Rattle.linked.specs.Sound.{PlaceGood}
+use Rattle.linked.proofs.Running.{ready-says, placed-numbered}
+use Rattle.kept.specs.Settled.{Settled}
 use Rattle.kept.specs.Claims.{Sizes}
 use Rattle.kept.proofs.Reading.{nth-cases, task-put}
-use Rattle.kept.proofs.Waiting.{task-numbered}
+use Rattle.kept.proofs.Waiting.{task-numbered, queued-starts}
 use Rattle.past.specs.Past.{back}
 use Rattle.past.proofs.Making.{Passing, Makes, go-from}
 use Rattle.past.proofs.Sweeping.{Earlier, Turned}
@@ -103,6 +108,38 @@ parked-still z c b v j =
     let t = ready-says b j r in
     let n = task-numbered z b (v .passing .order) (v .passing .queues) (v .passing .settled) j (t .0) in
     true≢false (sym (v .all j n .1 (t .0)) ∙ t .2))
+
+-- ---- where no message is queued, one that isn't free is held
+pub used-held : (z : Size) (b : Board) → Stage z Parked 0 b → (m : ℕ) → place b m ≢ Free → (k : ℕ) × (place b m ≡ HeldBy (taskNo k))
+used-held z b v m h =
+    let p = v .passing in
+    let s = p .settled in
+    step s (place b m) refl (s .regular .places m (rw (s .fits .places) at (placed-numbered b m h)))
+  where
+    step : Settled z b (v .passing .order) (v .passing .queues) → (x : Place) → place b m ≡ x → PlaceGood z b m x
+        → (k : ℕ) × (place b m ≡ HeldBy (taskNo k))
+    step s Free e g = absurd (h e)
+    step s (HeldBy t) e g = (t .0, e)
+    step s (QueuedAt t) e g =
+        let n = task-numbered z b (v .passing .order) (v .passing .queues) s (t .0) (g .3) in
+        absurd (queued-starts z b (v .passing .order) (v .passing .queues) (s .regular .linked) (t .0) m n e (v .all (t .0) n .0))
+    step s (Nowhere x) e g = absurd g
+
+-- RPTR of a message, where it isn't 0, is the number of a task
+pub receiver-numbered : (z : Size) (b : Board) (order : List ℕ) (queues : ℕ → List ℕ) → Settled z b order queues
+    → (m : ℕ) → message b m .rptr ≢ 0 → Numbered (z .tasks) (message b m .rptr)
+receiver-numbered z b order queues s m h = step (place b m) (s .regular .places m numbered)
+  where
+    numbered : Numbered (z .messages) m
+    numbered =
+        rw (s .fits .messages) at (nth-numbered noMessage (λ (u : Message). not (eqb (u .rptr) 0)) (b .messages) refl m
+        (ap not (ne-eqb (message b m .rptr) 0 h)))
+
+    step : (p : Place) → PlaceGood z b m p → Numbered (z .tasks) (message b m .rptr)
+    step Free g = absurd (h (ap (λ (u : Message). u .rptr) g))
+    step (HeldBy k) g = (omega (arith, h), g .0 .receiver)
+    step (QueuedAt k) g = (omega (arith, h), g .0 .receiver)
+    step (Nowhere p) g = absurd g
 
 -- ---- the stages that say more
 -- no interrupt is queued, and where a message is queued somebody runs
