@@ -6,3 +6,4 @@ pub mod Rows
 pub mod Which
 pub mod Theorems
 pub mod Naming
+pub mod Coded

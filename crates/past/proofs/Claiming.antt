@@ -20,7 +20,7 @@ use Rattle.board.specs.declared.numbers.Size.{Size}
 use Rattle.board.specs.declared.records.Task.{Task}
 use Rattle.board.specs.declared.records.Message.{Message}
 use Rattle.board.specs.declared.places.Place.{Place}
-use Rattle.board.specs.declared.places.Place.the-variants.{Free, HeldBy, QueuedAt, Nowhere}
+use Rattle.board.specs.declared.places.Place.the-variants.{Free, HeldBy}
 use Rattle.board.specs.Numbers.{taskNo, Numbered}
 use Rattle.board.specs.Status.{WAIT, IWAT, MHBS, TCBB, has, withoutBit}
 use Rattle.board.specs.Places.{isFree}
@@ -41,7 +41,7 @@ use Rattle.kept.specs.Settled.{Settled}
 use Rattle.kept.specs.Claims.{Sizes}
 use Rattle.kept.proofs.Reading.{nth-cases, task-alike, message-put, place-put, place-other}
 use Rattle.kept.proofs.Holding.{held-good, settled-record, settled-release}
-use Rattle.kept.proofs.Waiting.{task-numbered, queued-starts}
+use Rattle.kept.proofs.Waiting.{task-numbered}
 use Rattle.past.specs.Past.{addressed, claimed}
 use Rattle.past.proofs.Making.{Passing, Makes, makes-then, makes-call, go-from}
 use Rattle.past.proofs.Sweeping.{Turned, turned-here, Above}

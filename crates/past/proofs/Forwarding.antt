@@ -27,11 +27,11 @@ use Rattle.board.specs.Board.{Board, task, message, place}
 use Rattle.board.proofs.Bits.{withoutBit-other, withoutBit-small, set-cleared, clear-set, withBit-has}
 use Rattle.board.proofs.Pieces.{within-outside}
 use Rattle.paper.specs.declared.call.Call.the-variants.{Forward, CancelMessage}
-use Rattle.paper.specs.Rules.{present, nextMessage, messageNumber, taskNumber, queue, ready}
+use Rattle.paper.specs.Rules.{present, nextMessage, messageNumber, queue, ready}
 use Rattle.paper.specs.Changes.{withQueue, hold}
 use Rattle.paper.specs.Effects.{placeAt, emptied, cancelMessage}
 use Rattle.paper.specs.Refusals.{no6, no7, ownRow, Go, lowest}
-use Rattle.linked.specs.Sound.{PlaceGood, RunsRightly}
+use Rattle.linked.specs.Sound.{PlaceGood}
 use Rattle.linked.proofs.Running.{placed-numbered, ready-says}
 use Rattle.linked.proofs.Chosen.{fewer-runs}
 use Rattle.kept.specs.Settled.{Settled}

@@ -42,7 +42,7 @@ use Rattle.kept.proofs.Holding.{held-good}
 use Rattle.kept.proofs.Installing.{install-settled}
 use Rattle.kept.proofs.Cancelling.{cancel-settled}
 use Rattle.kept.proofs.Dispatching.{settled-running, runs-byte}
-use Rattle.past.specs.Past.{back, here, unnamed, left}
+use Rattle.past.specs.Past.{back, here, unnamed, guestStat, guestPrio, left}
 use Rattle.past.proofs.Making.{Passing, Makes, makes-then, makes-call, go-from}
 use Rattle.past.proofs.Sweeping.{Turned, turned-here}
 use Rattle.past.proofs.Stages.{Stage, Bare, Parked, parked-still, task-word}
@@ -53,7 +53,7 @@ use Rattle.past.proofs.Waking.{none-due, still-w, makes-start}
 
 -- the record of a task that was there for a while
 abbrev guest : Task
-guest = record { stat = stored 0x01; prio = 0xFD; link = 0; mptr = 0; sptr = 0; name = 0 }
+guest = record { stat = stored guestStat; prio = guestPrio; link = 0; mptr = 0; sptr = 0; name = 0 }
 
 -- whoever an RPTR names is there
 abbrev pub Named : Board → ℕ → Type 0
@@ -78,25 +78,25 @@ module _ (z : Size) (a : Sizes z) (k : ℕ) (b : Board) (n : Numbered (z .tasks)
 
   -- ---- k there and awake
   abbrev goes : ℕ → Bool
-  goes x = goesBefore true (number 0xFD) (taskNumber b x)
+  goes x = goesBefore true (number guestPrio) (taskNumber b x)
 
   abbrev l : List ℕ
   l = insert goes k (order z b)
 
   abbrev d : Board
-  d = install z b k 0x01 0xFD 0 0
+  d = install z b k guestStat guestPrio 0 0
 
-  go-install : lowest (ownRow z b 0 (Install k 0x01 0xFD 0 0)) ≡ Go
+  go-install : lowest (ownRow z b 0 (Install k guestStat guestPrio 0 0)) ≡ Go
   go-install =
       let room : no8 z b k .applies ≡ false = rw (within-outside (z .tasks) k (n .0) (n .1), absent) refl in
-      go-from (no7Install 0xFD) (no8 z b k ∷ no9 0x01 ∷ []) refl
-      (go-from (no8 z b k) (no9 0x01 ∷ []) room (go-from (no9 0x01) [] refl refl))
+      go-from (no7Install guestPrio) (no8 z b k ∷ no9 guestStat ∷ []) refl
+      (go-from (no8 z b k) (no9 guestStat ∷ []) room (go-from (no9 guestStat) [] refl refl))
 
-  fitting : Fitting (Install k 0x01 0xFD 0 0)
+  fitting : Fitting (Install k guestStat guestPrio 0 0)
   fitting = ((task-word z a k n, (lit< tt, (lit< tt, tt))), (lit< tt, (lit< tt, tt)))
 
   sd : Settled z d (insert goes k q) f
-  sd = install-settled z b q f a s k 0x01 0xFD 0 0 0 fitting go-install
+  sd = install-settled z b q f a s k guestStat guestPrio 0 0 0 fitting go-install
 
   sheet-k : sheet (task d k) ≡ sheet guest
   sheet-k = order-sheet (withTask b k guest) l k ∙ ap sheet (task-put b k guest (rw (s .fits .tasks) n))
@@ -113,7 +113,7 @@ module _ (z : Size) (a : Sizes z) (k : ℕ) (b : Board) (n : Numbered (z .tasks)
   runs-d = order-running (withTask b k guest) l ∙ p .runs
 
   -- the status at each number
-  split : (P : Status → Type 0) → P (stored 0x01) → (j : ℕ) → (j ≢ k → P (task b j .stat)) → P (task d j .stat)
+  split : (P : Status → Type 0) → P (stored guestStat) → (j : ℕ) → (j ≢ k → P (task b j .stat)) → P (task d j .stat)
   split P g j h = step (ℕ-discrete j k)
     where
       step : Dec (j ≡ k) → P (task d j .stat)
@@ -250,7 +250,7 @@ module _ (z : Size) (a : Sizes z) (k : ℕ) (b : Board) (n : Numbered (z .tasks)
   there-j : (j : ℕ) → j ≢ k → present y j ≡ present b j
   there-j j g = ap isThere (task-other d k j parked g) ∙ ap isThere (sheet-j j g)
 
-  turned : Turned z (Stage z Parked 0) Named b k (back (sets (install z b k 0x01 0xFD 0 0) k IWAT) (PostInterrupt k ∷ CancelTask k ∷ []))
+  turned : Turned z (Stage z Parked 0) Named b k (back (sets (install z b k guestStat guestPrio 0 0) k IWAT) (PostInterrupt k ∷ CancelTask k ∷ []))
   turned = record {
     earlier = record {
       inv = stage-y;
@@ -267,7 +267,7 @@ pub turn-left : (z : Size) → Sizes z → (k : ℕ) (b : Board) → Numbered (z
     → Turned z (Stage z Parked 0) Named b k (left z b k)
 turn-left z a k b n v =
     cond-holds (Turned z (Stage z Parked 0) Named b k) (present b k || unnamed z b k) (here b)
-    (back (sets (install z b k 0x01 0xFD 0 0) k IWAT) (PostInterrupt k ∷ CancelTask k ∷ []))
+    (back (sets (install z b k guestStat guestPrio 0 0) k IWAT) (PostInterrupt k ∷ CancelTask k ∷ []))
     (λ t. turned-here z (Stage z Parked 0) Named b k v (λ m e. named t m e (present b k) refl))
     (λ t. turned z a k b n v (neither (present b k) (unnamed z b k) t .0))
   where

@@ -17,3 +17,4 @@ pub mod Addressing
 pub mod Claiming
 pub mod Installing
 pub mod WayBack
+pub mod Theorems

@@ -11,7 +11,6 @@ use borrow.Author.Tests.{eq-eqb}
 use Rattle.links.specs.Chain.{All}
 use Rattle.board.specs.declared.numbers.Size.{Size}
 use Rattle.board.specs.Status.{MHBS, has}
-use Rattle.board.specs.Records.{Byte}
 use Rattle.board.specs.Board.{Board, total, bytesOf, task, withRunning}
 use Rattle.paper.specs.declared.call.Call.{Call}
 use Rattle.paper.specs.declared.answer.Answer.{Answer}
@@ -20,7 +19,7 @@ use Rattle.paper.specs.Refusals.{Test, no1, no2, ownRow, row, Verdict, Go, lowe
 use Rattle.paper.specs.Outcomes.{Outcome, accepted, undispatched, judge, body, deliver, dispatchTo, dispatch, called, effect}
 use Rattle.paper.specs.History.{run}
 use Rattle.linked.specs.Sound.{RunsRightly}
-use Rattle.linked.proofs.Chosen.{leads-may, runs-alike}
+use Rattle.linked.proofs.Chosen.{leads-may}
 use Rattle.kept.specs.Settled.{Settled, Fitting, AllFit}
 use Rattle.kept.specs.Claims.{Sizes}
 use Rattle.kept.proofs.Fitting.{board-bytes, bytes-fit}

@@ -5,7 +5,7 @@ use mathlib.Core.Path.{_≡_, refl, sym, ap, _∙_, subst}
 use mathlib.Core.Logic.{_≢_, inr}
 use mathlib.Core.Bool.{Bool, true, false, cond, true≢false}
 use mathlib.Core.List.{[], _∷_}
-use Prim.Native.Nat.{ℕ, _≤_}
+use Prim.Native.Nat.{ℕ}
 use native.Mathlib.Omega.{arith}
 use lib.ListN.{length}
 use Rattle.links.proofs.Bools.{refuted}
@@ -16,7 +16,7 @@ use Rattle.board.specs.Status.{WAIT, IWAT, INTQ, MHBS, TCBB, has, withBit, with
 use Rattle.board.specs.Board.{Board, task, withRunning}
 use Rattle.board.proofs.Bits.{withoutBit-has, withoutBit-other, set-cleared}
 use Rattle.paper.specs.declared.call.Call.the-variants.{PostInterrupt, WaitForInterrupt}
-use Rattle.paper.specs.Rules.{present, ready, taskNumber}
+use Rattle.paper.specs.Rules.{present, ready}
 use Rattle.paper.specs.Changes.{sets, clears}
 use Rattle.paper.specs.Effects.{post, waitInterrupt}
 use Rattle.linked.specs.Sound.{RunsRightly}

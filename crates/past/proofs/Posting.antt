@@ -22,7 +22,7 @@ use Rattle.kept.specs.Settled.{Settled}
 use Rattle.kept.specs.Claims.{Sizes}
 use Rattle.kept.proofs.Reading.{task-alike}
 use Rattle.kept.proofs.Flagging.{flags-alike, apart-INTQ, settled-clears}
-use Rattle.past.specs.Past.{Back, back, here, posted}
+use Rattle.past.specs.Past.{back, here, posted}
 use Rattle.past.proofs.Making.{Passing, Makes, makes-call}
 use Rattle.past.proofs.Sweeping.{Turned, turned-here}
 use Rattle.past.proofs.Statuses.{restat-undone, flag-there}

@@ -27,7 +27,7 @@ use Rattle.kept.specs.Claims.{Sizes}
 use Rattle.kept.proofs.Reading.{nth-cases, task-other, task-alike}
 use Rattle.kept.proofs.Flagging.{flags-ready, apart-WAIT, settled-clears}
 use Rattle.kept.proofs.Dispatching.{settled-running, runs-byte}
-use Rattle.past.specs.Past.{Back, back, here, waited}
+use Rattle.past.specs.Past.{back, here, waited}
 use Rattle.past.proofs.Making.{Passing, Makes, makes-then, makes-call}
 use Rattle.past.proofs.Sweeping.{Turned, turned-here}
 use Rattle.past.proofs.Statuses.{is-ready, ready-one, restat-stat, restat-undone, flag-there}

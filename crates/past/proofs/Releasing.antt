@@ -11,12 +11,12 @@ use borrow.Author.Tests.{not-true}
 use Rattle.links.proofs.Bools.{both, and-true, cond-holds}
 use Rattle.board.specs.declared.numbers.Size.{Size}
 use Rattle.board.specs.declared.places.Place.{Place}
-use Rattle.board.specs.declared.places.Place.the-variants.{Free, HeldBy, QueuedAt, Nowhere}
+use Rattle.board.specs.declared.places.Place.the-variants.{Free, HeldBy}
 use Rattle.board.specs.Numbers.{taskNo, Numbered}
 use Rattle.board.specs.Status.{IWAT, has}
 use Rattle.board.specs.Places.{isFree, isQueued}
 use Rattle.board.specs.Records.{noMessage}
-use Rattle.board.specs.Board.{Board, board, put, task, message, place, withPlace, withRunning}
+use Rattle.board.specs.Board.{Board, board, put, task, message, place, withPlace}
 use Rattle.board.proofs.Numbered.{put-nth, put-put}
 use Rattle.paper.specs.declared.call.Call.the-variants.{PostInterrupt, Release, WaitForInterrupt}
 use Rattle.paper.specs.Rules.{present, ready}
@@ -24,14 +24,13 @@ use Rattle.paper.specs.Changes.{clears}
 use Rattle.paper.specs.Effects.{release}
 use Rattle.linked.specs.Sound.{PlaceGood}
 use Rattle.linked.proofs.Tests.{says-isFree}
-use Rattle.linked.proofs.Running.{placed-numbered}
 use Rattle.linked.proofs.Chosen.{none-runs}
 use Rattle.kept.specs.Settled.{Settled}
 use Rattle.kept.specs.Claims.{Sizes}
 use Rattle.kept.proofs.Reading.{place-put, place-other}
 use Rattle.kept.proofs.Holding.{free-held, settled-place, held-good, held-fits}
-use Rattle.kept.proofs.Waiting.{task-numbered, queued-starts}
-use Rattle.past.specs.Past.{Back, back, here, holder, released}
+use Rattle.kept.proofs.Waiting.{task-numbered}
+use Rattle.past.specs.Past.{back, here, holder, released}
 use Rattle.past.proofs.Making.{Passing, Makes, makes-then, makes-call}
 use Rattle.past.proofs.Sweeping.{Turned, turned-here}
 use Rattle.past.proofs.Stages.{Hosted, parked-still, used-held, go-held, message-word}

@@ -34,7 +34,7 @@ use Rattle.kept.proofs.Reading.{nth-cases, task-put}
 use Rattle.kept.proofs.Waiting.{task-numbered, queued-starts}
 use Rattle.past.specs.Past.{back}
 use Rattle.past.proofs.Making.{Passing, Makes, go-from}
-use Rattle.past.proofs.Sweeping.{Earlier, Turned}
+use Rattle.past.proofs.Sweeping.{Turned}
 use Rattle.past.proofs.Statuses.{restat}
 
 -- ---- a stage: c runs, and Q holds of every task

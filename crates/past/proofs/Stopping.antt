@@ -7,7 +7,7 @@ use mathlib.Core.List.{[], _∷_}
 use Prim.Native.Nat.{ℕ}
 use native.Mathlib.Omega.{arith}
 use lib.Dec.{eqb}
-use borrow.Author.Tests.{eqb-true, eqb-false, eq-eqb, ne-eqb, not-true}
+use borrow.Author.Tests.{eqb-true, eqb-false, eq-eqb, not-true}
 use Rattle.links.specs.Queue.{each, smallestFailing}
 use Rattle.links.proofs.Bools.{refuted, both, cond-holds, each-at}
 use Rattle.links.proofs.Smallest.{smallest-none, smallest-one, smallest-fails}
@@ -24,7 +24,7 @@ use Rattle.paper.specs.Changes.{clears}
 use Rattle.linked.specs.Sound.{Proper}
 use Rattle.kept.specs.Claims.{Sizes}
 use Rattle.kept.proofs.Reading.{nth-cases}
-use Rattle.past.specs.Past.{Back, back, here, stopped}
+use Rattle.past.specs.Past.{back, here, stopped}
 use Rattle.past.proofs.Making.{Passing}
 use Rattle.past.proofs.Sweeping.{Earlier, is-here}
 use Rattle.past.proofs.Statuses.{is-ready}
@@ -75,14 +75,17 @@ module _ (z : Size) (a : Sizes z) (c : ℕ) (b : Board) (v : Stage z Quiet c b) 
       let still = v .passing .rightly .nobody .0 e in
       let i = parked still k n m in
       let s = task b k .stat in record {
-        inv = (k, record {
-          stage = record {
-            passing = passing-awoken z a b p still k n i;
-            all = λ j g. nth-cases Quiet noTask (b .tasks) k j (taskWithStat (task b k) (withoutBit s IWAT))
-                (λ d. withoutBit-other s IWAT INTQ refl ∙ v .all k n) (v .all j g);
-          };
-          runs = λ j g d. h;
-        });
+        inv = (
+          k,
+          record {
+            stage = record {
+              passing = passing-awoken z a b p still k n i;
+              all = λ j g. nth-cases Quiet noTask (b .tasks) k j (taskWithStat (task b k) (withoutBit s IWAT))
+                  (λ d. withoutBit-other s IWAT INTQ refl ∙ v .all k n) (v .all j g);
+            };
+            runs = λ j g d. h;
+          },
+        );
         makes = makes-wait z a b p still k n i;
       }
 

@@ -5,11 +5,10 @@ use mathlib.Core.Path.{_≡_, refl, sym, ap, _∙_, subst}
 use mathlib.Core.Logic.{_≢_, inl, inr}
 use mathlib.Core.Bool.{Bool, true, false, cond, not, _&&_, true≢false}
 use mathlib.Core.List.{List, [], _∷_}
-use Prim.Native.Nat.{ℕ, _≤_}
+use Prim.Native.Nat.{ℕ}
 use native.Mathlib.Omega.{arith}
-use native.Mathlib.Decide.{ℕ-discrete}
 use lib.Dec.{eqb}
-use borrow.Author.Tests.{eqb-true, eqb-false, eq-eqb, ne-eqb, not-true}
+use borrow.Author.Tests.{eqb-true, eqb-false, not-true}
 use Rattle.links.proofs.Bools.{refuted, both, cond-holds}
 use Rattle.board.specs.declared.numbers.Size.{Size}
 use Rattle.board.specs.declared.status.Status.{Status}
@@ -20,24 +19,22 @@ use Rattle.board.specs.Records.{noTask, taskWithStat}
 use Rattle.board.specs.Board.{Board, task, withRunning}
 use Rattle.board.proofs.Bits.{withBit-other, clear-set, withBit-has}
 use Rattle.paper.specs.declared.call.Call.the-variants.{PostInterrupt}
-use Rattle.paper.specs.Rules.{isThere, present, taskNumber, ready}
+use Rattle.paper.specs.Rules.{isThere, present, ready}
 use Rattle.paper.specs.Changes.{sets, clears}
-
 use Rattle.paper.proofs.Which.{nth-numbered}
-use Rattle.linked.specs.Sound.{RunsRightly}
 use Rattle.linked.proofs.Running.{ready-says}
 use Rattle.linked.proofs.Chosen.{fewer-runs, none-runs, ready-numbered}
 use Rattle.kept.specs.Settled.{Settled}
 use Rattle.kept.specs.Claims.{Sizes}
-use Rattle.kept.proofs.Reading.{nth-cases, task-put, task-other, task-alike}
+use Rattle.kept.proofs.Reading.{nth-cases, task-other, task-alike}
 use Rattle.kept.proofs.Flagging.{flags-parked, apart-IWAT, settled-sets}
 use Rattle.kept.proofs.Dispatching.{settled-running}
-use Rattle.past.specs.Past.{Back, back, here, readied, started}
+use Rattle.past.specs.Past.{back, here, readied, started}
 use Rattle.past.proofs.Making.{Passing, Makes, makes-call}
 use Rattle.past.proofs.Sweeping.{Earlier, is-here, Turned, turned-here}
 use Rattle.past.proofs.Statuses.{unready, restat-stat, restat-undone}
 use Rattle.past.proofs.Stages.{Stage, Bare, Still, go-post, task-word}
-use Rattle.past.proofs.Parking.{runs-same, awoken, makes-wake}
+use Rattle.past.proofs.Parking.{runs-same, makes-wake}
 
 -- with no message queued nobody is due one
 pub none-due : (z : Size) (b : Board) (order : List ℕ) (queues : ℕ → List ℕ) → Settled z b order queues

@@ -12,16 +12,19 @@ use mathlib.Core.Logic.{_↔_}
 use mathlib.Core.Bool.{true}
 use mathlib.Core.List.{List}
 use Prim.Native.Nat.{ℕ}
+use lib.ListN.{length, getD}
 use Rattle.links.specs.Chain.{All}
 use Rattle.board.specs.declared.numbers.Size.{Size}
-use Rattle.board.specs.Board.{boardOf}
+use Rattle.board.specs.Numbers.{small}
+use Rattle.board.specs.Records.{Byte}
+use Rattle.board.specs.Board.{total, boardOf}
 use Rattle.board.specs.Claims.{Bytes}
 use Rattle.paper.specs.declared.call.Call.{Call}
 use Rattle.paper.specs.declared.answer.Answer.{Answer}
 use Rattle.paper.specs.declared.answer.Answer.the-variants.{Accepted}
 use Rattle.paper.specs.Rules.{passes}
-use Rattle.paper.specs.Outcomes.{blank}
-use Rattle.paper.specs.History.{run}
+use Rattle.paper.specs.Outcomes.{blank, Ends, fresh, check}
+use Rattle.paper.specs.History.{run, Made}
 use Rattle.kept.specs.Settled.{AllFit}
 use Rattle.kept.specs.Claims.{Sizes}
 use Rattle.past.specs.Past.{past}
@@ -44,3 +47,14 @@ PastRebuilds =
     (z : Size) → Sizes z → (l : List ℕ) → Bytes z l → passes z (boardOf z l) ≡ true
     → let calls = past z (boardOf z l) in let made = run z (blank z) calls in
     AllFit calls × (made .after ≡ l) × All IsAccepted (made .answers)
+
+-- ---- the same of code
+abbrev pub MadeFresh : List ℕ → List Call → List ℕ → Type 0
+MadeFresh l calls d =
+    (a : Answer) × (new : List ℕ) × (answers : List Answer) × Ends a new (fresh small l) × Made new calls answers d
+
+abbrev pub CheckedExactly : Type 0
+CheckedExactly =
+    (l after : List ℕ) (a : Answer) → ((i : ℕ) → Byte (getD l i 0)) → Ends a after (check small l)
+    → IsAccepted a
+    ↔ ((calls : List Call) × AllFit calls × ((lent : List ℕ) → length lent ≡ total small → MadeFresh lent calls l))

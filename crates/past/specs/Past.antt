@@ -79,10 +79,17 @@ waited b k =
 abbrev pub unnamed : Size → Board → ℕ → Bool
 unnamed z b k = each (λ m. not (eqb (message b m .rptr) k)) (z .messages)
 
+-- what such a task is: its priority is the last that a task can have
+abbrev pub guestStat : ℕ
+guestStat = 0x01
+
+abbrev pub guestPrio : ℕ
+guestPrio = 0xFD
+
 abbrev pub left : Size → Board → ℕ → Back
 left z b k =
     cond (present b k || unnamed z b k) (here b)
-    (back (sets (install z b k 0x01 0xFD 0 0) k IWAT) (PostInterrupt k ∷ CancelTask k ∷ []))
+    (back (sets (install z b k guestStat guestPrio 0 0) k IWAT) (PostInterrupt k ∷ CancelTask k ∷ []))
 
 -- ---- free messages before others that aren't: the holder of the next one held it too, and released it
 abbrev pub holder : Place → ℕ
