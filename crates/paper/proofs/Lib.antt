@@ -1,5 +1,6 @@
 pub mod Slips
 pub mod NamedCases
+pub mod Notches
 mod Served
 mod Samplers
 pub mod Rows

@@ -1,3 +1,4 @@
+mod Pasts
 pub mod Making
 pub mod Sweeping
 pub mod Statuses
@@ -18,3 +19,4 @@ pub mod Claiming
 pub mod Installing
 pub mod WayBack
 pub mod Theorems
+mod Cases
