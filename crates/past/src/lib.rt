@@ -1,2 +1,2 @@
-// PROMISE. Document 02, Ask 4: a board passes the check exactly if calls from the fresh board end in its very bytes, and which calls do. The
-// claims are specs/Claims; the calls are specs/Past, read backwards.
+// BRIDGE. A past of a board: calls that lead to it from the fresh board, found by going back (specs/Past). That they do so for every board
+// that passes is promised in reached.

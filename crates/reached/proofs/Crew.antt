@@ -13,7 +13,7 @@ use Rattle.paper.specs.Changes.{linkTask, withOrder}
 use Rattle.kept.specs.Touched.{Frame}
 use Rattle.kept.proofs.Reading.{relink-keeps}
 use Rattle.kept.proofs.Framing.{frame-order}
-use Rattle.past.proofs.Alike.{sheet}
+use Rattle.reached.proofs.Alike.{sheet}
 
 -- ---- the tasks relinked
 module _ (b : Board) (q : List ℕ) where

@@ -27,13 +27,13 @@ use Rattle.kept.specs.Claims.{Sizes}
 use Rattle.kept.proofs.Reading.{nth-cases, task-other, task-alike}
 use Rattle.kept.proofs.Flagging.{flags-ready, apart-WAIT, settled-clears}
 use Rattle.kept.proofs.Dispatching.{settled-running, runs-byte}
 use Rattle.past.specs.Past.{back, here, waited}
-use Rattle.past.proofs.Making.{Passing, Makes, makes-then, makes-call}
-use Rattle.past.proofs.Sweeping.{Turned, turned-here}
-use Rattle.past.proofs.Statuses.{is-ready, ready-one, restat-stat, restat-undone, flag-there}
-use Rattle.past.proofs.Stages.{Stage, Bare, Still, Parked, go-receive-wait}
-use Rattle.past.proofs.Parking.{runs-same}
-use Rattle.past.proofs.Waking.{still-w, makes-start, slept-parked}
+use Rattle.reached.proofs.Making.{Passing, Makes, makes-then, makes-call}
+use Rattle.reached.proofs.Sweeping.{Turned, turned-here}
+use Rattle.reached.proofs.Statuses.{is-ready, ready-one, restat-stat, restat-undone, flag-there}
+use Rattle.reached.proofs.Stages.{Stage, Bare, Still, Parked, go-receive-wait}
+use Rattle.reached.proofs.Parking.{runs-same}
+use Rattle.reached.proofs.Waking.{still-w, makes-start, slept-parked}
 
 module _ (z : Size) (a : Sizes z) (k : ℕ) (b : Board) (n : Numbered (z .tasks) k) (v : Stage z Still 0 b)
     (e : has (task b k .stat) WAIT ≡ true) where

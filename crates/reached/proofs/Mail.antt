@@ -21,8 +21,8 @@ use Rattle.paper.specs.Effects.{queueWith, woken, placeAt, emptied, cancelMessa
 use Rattle.links.proofs.Bools.{cond-holds}
 use Rattle.kept.proofs.Reading.{relink-keeps, message-put, place-put}
 use Rattle.kept.proofs.Relinked.{requeued-is, requeued-stat, requeued-alike}
-use Rattle.past.proofs.Statuses.{restat-stat}
-use Rattle.past.proofs.Alike.{block}
+use Rattle.reached.proofs.Statuses.{restat-stat}
+use Rattle.reached.proofs.Alike.{block}
 
 -- ---- a bit cleared and another set
 module _ (b : Board) (r x y : ℕ) (n : Numbered (length (b .tasks)) r) where

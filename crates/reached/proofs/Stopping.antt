@@ -24,12 +24,12 @@ use Rattle.paper.specs.Changes.{clears}
 use Rattle.linked.specs.Sound.{Proper}
 use Rattle.kept.specs.Claims.{Sizes}
 use Rattle.kept.proofs.Reading.{nth-cases}
 use Rattle.past.specs.Past.{back, here, stopped}
-use Rattle.past.proofs.Making.{Passing}
-use Rattle.past.proofs.Sweeping.{Earlier, is-here}
-use Rattle.past.proofs.Statuses.{is-ready}
-use Rattle.past.proofs.Stages.{Stage, Quiet, Led}
-use Rattle.past.proofs.Parking.{passing-awoken, makes-wait}
+use Rattle.reached.proofs.Making.{Passing}
+use Rattle.reached.proofs.Sweeping.{Earlier, is-here}
+use Rattle.reached.proofs.Statuses.{is-ready}
+use Rattle.reached.proofs.Stages.{Stage, Quiet, Led}
+use Rattle.reached.proofs.Parking.{passing-awoken, makes-wait}
 
 -- somebody who runs, if a message is queued
 abbrev pub SomeLed : Size → Board → Type 0

@@ -32,10 +32,10 @@ use Rattle.kept.specs.Settled.{Settled}
 use Rattle.kept.specs.Claims.{Sizes}
 use Rattle.kept.proofs.Reading.{nth-cases, task-put}
 use Rattle.kept.proofs.Waiting.{task-numbered, queued-starts}
 use Rattle.past.specs.Past.{back}
-use Rattle.past.proofs.Making.{Passing, Makes, go-from}
-use Rattle.past.proofs.Sweeping.{Turned}
-use Rattle.past.proofs.Statuses.{restat}
+use Rattle.reached.proofs.Making.{Passing, Makes, go-from}
+use Rattle.reached.proofs.Sweeping.{Turned}
+use Rattle.reached.proofs.Statuses.{restat}
 
 -- ---- a stage: c runs, and Q holds of every task
 pub record Stage (z : Size) (Q : Task → Type 0) (c : ℕ) (b : Board) : Type 0 where

@@ -23,10 +23,10 @@ use Rattle.kept.specs.Claims.{Sizes}
 use Rattle.kept.proofs.Fitting.{fits-board}
 use Rattle.kept.proofs.Theorems.{small-sizes, sound-settled, passing-sound, passing-stays-passing}
 use Rattle.kept.proofs.Fresh.{fresh-bytes, fresh-passes}
 use Rattle.past.specs.Past.{past, wayBack}
-use Rattle.past.specs.Claims.{Reached, HasAPast, IsAccepted, PastRebuilds, MadeFresh, CheckedExactly}
-use Rattle.past.proofs.Making.{Passing}
-use Rattle.past.proofs.WayBack.{all-back}
+use Rattle.reached.specs.Claims.{Reached, HasAPast, IsAccepted, PastRebuilds, MadeFresh, CheckedExactly}
+use Rattle.reached.proofs.Making.{Passing}
+use Rattle.reached.proofs.WayBack.{all-back}
 
 -- ---- whatever is reached passes
 abbrev Good : Size → List ℕ → Type 0

@@ -25,9 +25,9 @@ use Rattle.kept.specs.Settled.{Settled}
 use Rattle.kept.specs.Claims.{Sizes}
 use Rattle.kept.proofs.Flagging.{settled-post}
 use Rattle.kept.proofs.Dispatching.{settled-running, runs-byte}
-use Rattle.past.proofs.Making.{Passing, Makes, makes-call}
-use Rattle.past.proofs.Statuses.{is-ready, ready-one, restat-stat, restat-undone, flag-there}
-use Rattle.past.proofs.Stages.{go-post, go-wait, task-word}
+use Rattle.reached.proofs.Making.{Passing, Makes, makes-call}
+use Rattle.reached.proofs.Statuses.{is-ready, ready-one, restat-stat, restat-undone, flag-there}
+use Rattle.reached.proofs.Stages.{go-post, go-wait, task-word}
 
 -- byte 1 as it is
 pub runs-same : (b : Board) (c : ℕ) → b .running ≡ c → b ≡ withRunning b c

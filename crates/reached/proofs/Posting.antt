@@ -22,12 +22,12 @@ use Rattle.kept.specs.Settled.{Settled}
 use Rattle.kept.specs.Claims.{Sizes}
 use Rattle.kept.proofs.Reading.{task-alike}
 use Rattle.kept.proofs.Flagging.{flags-alike, apart-INTQ, settled-clears}
 use Rattle.past.specs.Past.{back, here, posted}
-use Rattle.past.proofs.Making.{Passing, Makes, makes-call}
-use Rattle.past.proofs.Sweeping.{Turned, turned-here}
-use Rattle.past.proofs.Statuses.{restat-undone, flag-there}
-use Rattle.past.proofs.Stages.{Stage, Quiet, turn-stat, go-post, task-word}
-use Rattle.past.proofs.Parking.{runs-same}
+use Rattle.reached.proofs.Making.{Passing, Makes, makes-call}
+use Rattle.reached.proofs.Sweeping.{Turned, turned-here}
+use Rattle.reached.proofs.Statuses.{restat-undone, flag-there}
+use Rattle.reached.proofs.Stages.{Stage, Quiet, turn-stat, go-post, task-word}
+use Rattle.reached.proofs.Parking.{runs-same}
 
 module _ (z : Size) (a : Sizes z) (c k : ℕ) (b : Board) (n : Numbered (z .tasks) k) (p : Passing z b c)
     (e : has (task b k .stat) INTQ ≡ true) where

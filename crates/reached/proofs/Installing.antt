@@ -41,13 +41,13 @@ use Rattle.kept.proofs.Waiting.{task-numbered}
 use Rattle.kept.proofs.Cancelling.{settled-cancel}
 use Rattle.kept.proofs.Installing.{install-settled}
 use Rattle.kept.proofs.Dispatching.{settled-running}
 use Rattle.past.specs.Past.{installed}
-use Rattle.past.proofs.Making.{Passing, Makes, makes-then, makes-call, go-from}
-use Rattle.past.proofs.Sweeping.{Earlier}
-use Rattle.past.proofs.Stages.{Stage, Parked, Unused, parked-still, task-word}
-use Rattle.past.proofs.Alike.{sheet, block, same-board}
-use Rattle.past.proofs.Crew.{order-sheet, order-mptr, order-message, order-place, order-running, order-length}
-use Rattle.past.proofs.Parking.{awoken, woken-only, settled-awoken, passing-awoken, makes-wait}
+use Rattle.reached.proofs.Making.{Passing, Makes, makes-then, makes-call, go-from}
+use Rattle.reached.proofs.Sweeping.{Earlier}
+use Rattle.reached.proofs.Stages.{Stage, Parked, Unused, parked-still, task-word}
+use Rattle.reached.proofs.Alike.{sheet, block, same-board}
+use Rattle.reached.proofs.Crew.{order-sheet, order-mptr, order-message, order-place, order-running, order-length}
+use Rattle.reached.proofs.Parking.{awoken, woken-only, settled-awoken, passing-awoken, makes-wait}
 
 module _ (z : Size) (a : Sizes z) (q : List ℕ) (k : ℕ) (b : Board) (u : Unused z (q ++ k ∷ []) b) where
   abbrev v : Stage z Parked 0 b

@@ -8,8 +8,8 @@ use native.Mathlib.Decide.{ℕ-discrete}
 use Rattle.board.specs.declared.numbers.Size.{Size}
 use Rattle.board.specs.Numbers.{Numbered}
 use Rattle.board.specs.Board.{Board}
 use Rattle.past.specs.Past.{Back, here, further, sweep, unlist}
-use Rattle.past.proofs.Making.{Makes, makes-none, makes-then}
+use Rattle.reached.proofs.Making.{Makes, makes-none, makes-then}
 
 -- ---- an earlier board, at which Inv holds, and the calls that lead from it to b
 pub record Earlier (z : Size) (Inv : Board → Type 0) (b : Board) (y : Back) : Type 0 where

@@ -42,14 +42,14 @@ use Rattle.kept.proofs.Holding.{held-good}
 use Rattle.kept.proofs.Installing.{install-settled}
 use Rattle.kept.proofs.Cancelling.{cancel-settled}
 use Rattle.kept.proofs.Dispatching.{settled-running, runs-byte}
 use Rattle.past.specs.Past.{back, here, unnamed, guestStat, guestPrio, left}
-use Rattle.past.proofs.Making.{Passing, Makes, makes-then, makes-call, go-from}
-use Rattle.past.proofs.Sweeping.{Turned, turned-here}
-use Rattle.past.proofs.Stages.{Stage, Bare, Parked, parked-still, task-word}
-use Rattle.past.proofs.Alike.{sheet, block, same-board}
-use Rattle.past.proofs.Crew.{order-sheet, order-mptr, order-message, order-place, order-running, order-length}
-use Rattle.past.proofs.Parking.{runs-same}
-use Rattle.past.proofs.Waking.{none-due, still-w, makes-start}
+use Rattle.reached.proofs.Making.{Passing, Makes, makes-then, makes-call, go-from}
+use Rattle.reached.proofs.Sweeping.{Turned, turned-here}
+use Rattle.reached.proofs.Stages.{Stage, Bare, Parked, parked-still, task-word}
+use Rattle.reached.proofs.Alike.{sheet, block, same-board}
+use Rattle.reached.proofs.Crew.{order-sheet, order-mptr, order-message, order-place, order-running, order-length}
+use Rattle.reached.proofs.Parking.{runs-same}
+use Rattle.reached.proofs.Waking.{none-due, still-w, makes-start}
 
 -- the record of a task that was there for a while
 abbrev guest : Task

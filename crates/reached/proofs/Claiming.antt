@@ -42,12 +42,12 @@ use Rattle.kept.specs.Claims.{Sizes}
 use Rattle.kept.proofs.Reading.{nth-cases, task-alike, message-put, place-put, place-other}
 use Rattle.kept.proofs.Holding.{held-good, settled-record, settled-release}
 use Rattle.kept.proofs.Waiting.{task-numbered}
 use Rattle.past.specs.Past.{addressed, claimed}
-use Rattle.past.proofs.Making.{Passing, Makes, makes-then, makes-call, go-from}
-use Rattle.past.proofs.Sweeping.{Turned, turned-here, Above}
-use Rattle.past.proofs.Stages.{Filled, parked-still, used-held, go-held, message-word}
-use Rattle.past.proofs.Parking.{awoken, settled-awoken, passing-awoken, makes-wait, makes-wake}
-use Rattle.past.proofs.Addressing.{addressedTo, settled-addressed, makes-addressed}
+use Rattle.reached.proofs.Making.{Passing, Makes, makes-then, makes-call, go-from}
+use Rattle.reached.proofs.Sweeping.{Turned, turned-here, Above}
+use Rattle.reached.proofs.Stages.{Filled, parked-still, used-held, go-held, message-word}
+use Rattle.reached.proofs.Parking.{awoken, settled-awoken, passing-awoken, makes-wait, makes-wake}
+use Rattle.reached.proofs.Addressing.{addressedTo, settled-addressed, makes-addressed}
 
 -- ---- the lowest free message
 first-in : (m : ℕ) (q : List ℕ) → In m q → In (firstOf q) q

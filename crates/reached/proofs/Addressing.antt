@@ -41,12 +41,12 @@ use Rattle.kept.proofs.Holding.{unqueued-out, held-numbered, held-good, settled
 use Rattle.kept.proofs.Waiting.{task-numbered}
 use Rattle.kept.proofs.Placing.{newRecord, addressed-reads}
 use Rattle.kept.proofs.Bodies.{body-settles, body-frame}
-use Rattle.past.proofs.Making.{Passing, Makes, makes-then, makes-call, go-from}
-use Rattle.past.proofs.Stages.{go-held, task-word, message-word}
-use Rattle.past.proofs.Alike.{sheet, block, same-board}
-use Rattle.past.proofs.Mail.{Waits, again, not as no-wait, back-message, back-place, held-stat, back-waits}
-use Rattle.past.proofs.Mail.{Woke, wakes, stays, placed-message, placed-place, placed-stat, placing, placed-wakes}
-use Rattle.past.proofs.Parking.{runs-same}
+use Rattle.reached.proofs.Making.{Passing, Makes, makes-then, makes-call, go-from}
+use Rattle.reached.proofs.Stages.{go-held, task-word, message-word}
+use Rattle.reached.proofs.Alike.{sheet, block, same-board}
+use Rattle.reached.proofs.Mail.{Waits, again, not as no-wait, back-message, back-place, held-stat, back-waits}
+use Rattle.reached.proofs.Mail.{Woke, wakes, stays, placed-message, placed-place, placed-stat, placing, placed-wakes}
+use Rattle.reached.proofs.Parking.{runs-same}
 
 -- the record that comes of it
 abbrev pub addressedTo : ℕ → ℕ → Message

@@ -25,7 +25,7 @@ use Rattle.kept.specs.Claims.{Sizes}
 use Rattle.kept.proofs.Fitting.{board-bytes, bytes-fit}
 use Rattle.kept.proofs.Dispatching.{settled-running, next-rightly, runs-byte}
 use Rattle.kept.proofs.Theorems.{settled-passes}
-use Rattle.past.specs.Claims.{IsAccepted}
+use Rattle.reached.specs.Claims.{IsAccepted}
 
 -- ---- a board that passes, with its lists and the task c that runs
 pub record Passing (z : Size) (b : Board) (c : ℕ) : Type 0 where

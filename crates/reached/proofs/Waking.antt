@@ -29,12 +29,12 @@ use Rattle.kept.specs.Claims.{Sizes}
 use Rattle.kept.proofs.Reading.{nth-cases, task-other, task-alike}
 use Rattle.kept.proofs.Flagging.{flags-parked, apart-IWAT, settled-sets}
 use Rattle.kept.proofs.Dispatching.{settled-running}
 use Rattle.past.specs.Past.{back, here, readied, started}
-use Rattle.past.proofs.Making.{Passing, Makes, makes-call}
-use Rattle.past.proofs.Sweeping.{Earlier, is-here, Turned, turned-here}
-use Rattle.past.proofs.Statuses.{unready, restat-stat, restat-undone}
-use Rattle.past.proofs.Stages.{Stage, Bare, Still, go-post, task-word}
-use Rattle.past.proofs.Parking.{runs-same, makes-wake}
+use Rattle.reached.proofs.Making.{Passing, Makes, makes-call}
+use Rattle.reached.proofs.Sweeping.{Earlier, is-here, Turned, turned-here}
+use Rattle.reached.proofs.Statuses.{unready, restat-stat, restat-undone}
+use Rattle.reached.proofs.Stages.{Stage, Bare, Still, go-post, task-word}
+use Rattle.reached.proofs.Parking.{runs-same, makes-wake}
 
 -- with no message queued nobody is due one
 pub none-due : (z : Size) (b : Board) (order : List ℕ) (queues : ℕ → List ℕ) → Settled z b order queues

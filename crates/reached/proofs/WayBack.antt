@@ -18,21 +18,21 @@ use Rattle.kept.specs.Settled.{Settled}
 use Rattle.kept.specs.Claims.{Sizes}
 use Rattle.kept.proofs.Reading.{absent-none, order-walked}
 use Rattle.kept.proofs.Fresh.{fresh-zeros, fresh-task, fresh-message, fresh-place, fresh-settled}
 use Rattle.past.specs.Past.{Back, sweep, unlist, through, wayBack}
 use Rattle.past.specs.Past.{posted, stopped, queued, readied, started, waited, left, released, claimed, installed}
-use Rattle.past.proofs.Making.{Passing}
-use Rattle.past.proofs.Sweeping.{Earlier, is-here, is-further, swept, unlisted}
-use Rattle.past.proofs.Stages.{Stage, Quiet, Bare, Still, Parked, Led, Hosted, Filled, Unused, receiver-numbered}
-use Rattle.past.proofs.Alike.{sheet, block, same-board}
-use Rattle.past.proofs.Posting.{turn-posted}
-use Rattle.past.proofs.Stopping.{SomeLed, back-stopped}
-use Rattle.past.proofs.Forwarding.{turn-queued}
-use Rattle.past.proofs.Waking.{Alone, turn-readied, back-started}
-use Rattle.past.proofs.Receiving.{turn-waited}
-use Rattle.past.proofs.Leaving.{Named, turn-left}
-use Rattle.past.proofs.Releasing.{turn-released}
-use Rattle.past.proofs.Claiming.{turn-claimed}
-use Rattle.past.proofs.Installing.{back-installed}
+use Rattle.reached.proofs.Making.{Passing}
+use Rattle.reached.proofs.Sweeping.{Earlier, is-here, is-further, swept, unlisted}
+use Rattle.reached.proofs.Stages.{Stage, Quiet, Bare, Still, Parked, Led, Hosted, Filled, Unused, receiver-numbered}
+use Rattle.reached.proofs.Alike.{sheet, block, same-board}
+use Rattle.reached.proofs.Posting.{turn-posted}
+use Rattle.reached.proofs.Stopping.{SomeLed, back-stopped}
+use Rattle.reached.proofs.Forwarding.{turn-queued}
+use Rattle.reached.proofs.Waking.{Alone, turn-readied, back-started}
+use Rattle.reached.proofs.Receiving.{turn-waited}
+use Rattle.reached.proofs.Leaving.{Named, turn-left}
+use Rattle.reached.proofs.Releasing.{turn-released}
+use Rattle.reached.proofs.Claiming.{turn-claimed}
+use Rattle.reached.proofs.Installing.{back-installed}
 
 -- what holds of the earlier board, said otherwise
 earlier-so : (z : Size) (Inv Then : Board → Type 0) (b : Board) (y : Back) → ((d : Board) → Inv d → Then d) → Earlier z Inv b y

@@ -16,8 +16,8 @@ use Rattle.paper.proofs.Slips.{tiny}
 use Rattle.paper.proofs.Notches.{heldWithLink, waitsWithQueue, evenInQueue, parkedWithInterrupt, laterRuns}
 use Rattle.paper.proofs.Notches.{senderAbsent, evenHeld, parkedWithQueue, earlierEqualDue}
 use Rattle.kept.specs.Claims.{Sizes}
-use Rattle.past.specs.Claims.{Reached}
-use Rattle.past.proofs.Theorems.{has-a-past}
+use Rattle.reached.specs.Claims.{Reached}
+use Rattle.reached.proofs.Theorems.{has-a-past}
 
 tiny-sizes : Sizes tiny
 tiny-sizes = record { tasks = lit≤ tt; limit = lit≤ tt; links = lit< tt }

@@ -42,15 +42,15 @@ use Rattle.kept.proofs.Waiting.{queue-awake, queued-starts, emptied-settled}
 use Rattle.kept.proofs.Taking.{out-settled}
 use Rattle.kept.proofs.Placing.{held-loose, place-settled}
 use Rattle.kept.proofs.Framed.{Framed, framed-back, framed-forward}
 use Rattle.past.specs.Past.{back, forwarded, queued}
-use Rattle.past.proofs.Making.{Passing, Makes, makes-call, go-from}
-use Rattle.past.proofs.Sweeping.{Earlier, Turned, unlisted}
-use Rattle.past.proofs.Statuses.{unready}
-use Rattle.past.proofs.Stages.{Quiet, Led, go-held, task-word, message-word}
-use Rattle.past.proofs.Alike.{sheet, block, same-board}
-use Rattle.past.proofs.Mail.{Waits, again, not as no-wait, back-message, back-place, held-stat, back-waits}
-use Rattle.past.proofs.Mail.{Woke, wakes, stays, placed-message, placed-place, placed-stat, placing, placed-wakes}
-use Rattle.past.proofs.Parking.{runs-same}
+use Rattle.reached.proofs.Making.{Passing, Makes, makes-call, go-from}
+use Rattle.reached.proofs.Sweeping.{Earlier, Turned, unlisted}
+use Rattle.reached.proofs.Statuses.{unready}
+use Rattle.reached.proofs.Stages.{Quiet, Led, go-held, task-word, message-word}
+use Rattle.reached.proofs.Alike.{sheet, block, same-board}
+use Rattle.reached.proofs.Mail.{Waits, again, not as no-wait, back-message, back-place, held-stat, back-waits}
+use Rattle.reached.proofs.Mail.{Woke, wakes, stays, placed-message, placed-place, placed-stat, placing, placed-wakes}
+use Rattle.reached.proofs.Parking.{runs-same}
 
 -- ---- m is the last in the queue of k, and c runs
 module _ (z : Size) (a : Sizes z) (c k : ℕ) (n : Numbered (z .tasks) k) (b : Board) (v : Led z c b) (q : List ℕ) (m : ℕ)
