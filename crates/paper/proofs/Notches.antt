@@ -21,7 +21,7 @@ abbrev holding : Board
 holding = withPlace (withMessage sound 1 (withPrio (message sound 1) 0x11)) 1 (HeldBy (taskNo 1))
 
 -- both tasks have the priority number of task 1, and task 2 runs
-abbrev equals : Board
+abbrev pub equals : Board
 equals = withRunning (withTask sound 2 (record { stat = stored 0x01; prio = 0x31; link = 0; mptr = 3; sptr = 0; name = 0 })) 2
 
 -- ---- a notch looser
