@@ -15,7 +15,8 @@ use Rattle.board.specs.declared.places.Place.the-variants as places
 use Rattle.board.specs.Status.{MHBS, has, stored, isReady}
 use Rattle.board.specs.Records.{Byte, wordAt, taskOf, noTask, messageOf, noMessage}
 use Rattle.board.specs.Places.{placeOf, placeIn, isQueued}
-use Rattle.board.specs.Board.{Area, Board, taskArea, messageArea, placeArea, total, cut, pieces, boardOf, nth, task, message, place}
+use Rattle.board.specs.Board.{Area, Board, taskArea, messageArea, placeArea, total, cut, pieces, boardOf, nth}
+use Rattle.board.specs.Board.{task, message, place}
 use Rattle.board.specs.Claims.{Bytes}
 use Rattle.board.proofs.Numbered.{nth-map}
 use Rattle.paper.specs.Rules.{isThere, passes}

@@ -1,4 +1,4 @@
--- What a program that meets the contracts of fresh and of the step is handed and leaves: the answers and the bytes of the definitions.
+-- What a program that meets the contracts of fresh and of the step is handed and leaves: answers and bytes of the definitions.
 -- Assumes nothing.
 use mathlib.Core.Path.{_≡_, refl, ap, _∙_}
 use mathlib.Core.Bool.{Bool, not}
@@ -16,7 +16,8 @@ use Rattle.paper.specs.Outcomes.{accepted, judge, blank, effect, fresh}
 use Rattle.paper.specs.History.{run, Made}
 
 -- it is handed the answers of the definitions
-pub made-answers : (l d : List ℕ) (calls : List Call) (answers : List Answer) → Made l calls answers d → answers ≡ run small l calls .answers
+pub made-answers : (l d : List ℕ) (calls : List Call) (answers : List Answer) → Made l calls answers d
+    → answers ≡ run small l calls .answers
 made-answers l d [] [] w = refl
 made-answers l d [] (a ∷ answers) w = absurd w
 made-answers l d (call ∷ calls) [] w = absurd w
@@ -27,7 +28,8 @@ made-answers l d (call ∷ calls) (a ∷ answers) w =
     ∙ ap (λ (m : List ℕ). o .answer ∷ run small m calls .answers) (w .1 .leaves)
 
 -- it leaves their bytes
-pub made-bytes : (l d : List ℕ) (calls : List Call) (answers : List Answer) → Made l calls answers d → d ≡ run small l calls .after
+pub made-bytes : (l d : List ℕ) (calls : List Call) (answers : List Answer) → Made l calls answers d
+    → d ≡ run small l calls .after
 made-bytes l d [] [] w = w
 made-bytes l d [] (a ∷ answers) w = absurd w
 made-bytes l d (call ∷ calls) [] w = absurd w
@@ -37,9 +39,11 @@ made-bytes l d (call ∷ calls) (a ∷ answers) w =
 -- and one that does so meets the contracts
 pub run-made : (l : List ℕ) (calls : List Call) → let p = run small l calls in Made l calls (p .answers) (p .after)
 run-made l [] = refl
-run-made l (call ∷ calls) = let o = effect small l call in (o .after, record { answers = refl; leaves = refl }, run-made (o .after) calls)
+run-made l (call ∷ calls) =
+    let o = effect small l call in (o .after, record { answers = refl; leaves = refl }, run-made (o .after) calls)
 
 -- fresh on a board's length leaves zeros
 pub fresh-leaves : (l : List ℕ) → length l ≡ total small → fresh small l .after ≡ blank small
 fresh-leaves l e =
-    ap (λ (x : Bool). judge l (lowest (test WrongLength (not x) ∷ [])) (accepted 0 0 0 (blank small)) .after) (eq-eqb (length l) (total small) e)
+    ap (λ (x : Bool). judge l (lowest (test WrongLength (not x) ∷ [])) (accepted 0 0 0 (blank small)) .after)
+    (eq-eqb (length l) (total small) e)

@@ -57,7 +57,8 @@ case-past-two-queues = refl
 
 case-past-visited :
     past tiny (boardOf tiny visited)
-    ≡ Install 1 0x01 0x31 0 0 ∷ WaitForInterrupt ∷ Install 2 0x01 0x33 0 0 ∷ WaitForInterrupt ∷ Install 3 0x01 0xFD 0 0 ∷ WaitForInterrupt
+    ≡ Install 1 0x01 0x31 0 0 ∷ WaitForInterrupt ∷ Install 2 0x01 0x33 0 0 ∷ WaitForInterrupt
+    ∷ Install 3 0x01 0xFD 0 0 ∷ WaitForInterrupt
     ∷ PostInterrupt 1 ∷ Claim ∷ Send 1 3 ∷ CancelMessage 1 3 ∷ Prepare 1 0 0x11 2 ∷ WaitForInterrupt
     ∷ PostInterrupt 3 ∷ CancelTask 3 ∷ PostInterrupt 2 ∷ ReceiveAndWait ∷ PostInterrupt 1 ∷ PostInterrupt 1 ∷ []
 case-past-visited = refl

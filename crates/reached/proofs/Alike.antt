@@ -42,8 +42,9 @@ zeros-ext (x ∷ l) [] e g h = absurd (omega arith)
 zeros-ext (x ∷ l) (y ∷ m) e g h = ap₂ _∷_ (g .0 ∙ sym (h .0)) (zeros-ext l m (omega arith) (g .1) (h .1))
 
 -- ---- the law
-module _ (z : Size) (b d : Board) (q : List ℕ) (f g : ℕ → List ℕ) (s : Settled z b q f) (t : Settled z d q g) (runs : b .running ≡ d .running)
-    (lists : (k : ℕ) → Numbered (z .tasks) k → f k ≡ g k) (tasks : (k : ℕ) → Numbered (z .tasks) k → sheet (task b k) ≡ sheet (task d k))
+module _ (z : Size) (b d : Board) (q : List ℕ) (f g : ℕ → List ℕ) (s : Settled z b q f) (t : Settled z d q g)
+    (runs : b .running ≡ d .running) (lists : (k : ℕ) → Numbered (z .tasks) k → f k ≡ g k)
+    (tasks : (k : ℕ) → Numbered (z .tasks) k → sheet (task b k) ≡ sheet (task d k))
     (messages : (m : ℕ) → Numbered (z .messages) m → block (message b m) ≡ block (message d m))
     (places : (m : ℕ) → Numbered (z .messages) m → place b m ≡ place d m) where
   there-same : (k : ℕ) → Numbered (z .tasks) k → present b k ≡ present d k
@@ -59,7 +60,8 @@ module _ (z : Size) (b d : Board) (q : List ℕ) (f g : ℕ → List ℕ) (s : S
     where
       step : In k q ⊎ Out k q → (v : Bool) → present b k ≡ v → task b k .link ≡ task d k .link
       step (inl i) v e =
-          chain-links (nextTask b) (nextTask d) (b .first) (d .first) q (s .regular .linked .tasks .chain) (t .regular .linked .tasks .chain) k i
+          chain-links (nextTask b) (nextTask d) (b .first) (d .first) q (s .regular .linked .tasks .chain)
+          (t .regular .linked .tasks .chain) k i
       step (inr o) true e = absurd (out-not-in k q o (s .regular .linked .tasks .exact k .1 e))
       step (inr o) false e =
           ap (λ (x : Task). x .link) (absent-none (task b k) (s .regular .records k n) e)
@@ -68,7 +70,8 @@ module _ (z : Size) (b d : Board) (q : List ℕ) (f g : ℕ → List ℕ) (s : S
   task-same : (k : ℕ) → Numbered (z .tasks) k → task b k ≡ task d k
   task-same k n = λ i. taskWithMptr (taskWithLink (tasks k n i) (link-same k n i)) (mptr-same k n i)
 
-  next-same : (m : ℕ) (p : Place) → place b m ≡ p → place d m ≡ p → PlaceGood z b m p → PlaceGood z d m p → message b m .link ≡ message d m .link
+  next-same : (m : ℕ) (p : Place) → place b m ≡ p → place d m ≡ p → PlaceGood z b m p → PlaceGood z d m p
+      → message b m .link ≡ message d m .link
   next-same m Free e h u v = ap (λ (r : Message). r .link) (u ∙ sym v)
   next-same m (HeldBy k) e h u v = u .1 ∙ sym (v .1)
   next-same m (QueuedAt k) e h u v =
@@ -81,7 +84,8 @@ module _ (z : Size) (b d : Board) (q : List ℕ) (f g : ℕ → List ℕ) (s : S
 
   message-same : (m : ℕ) → Numbered (z .messages) m → message b m ≡ message d m
   message-same m n =
-      let l = next-same m (place b m) refl (sym (places m n)) (s .regular .places m n) (subst (PlaceGood z d m) (sym (places m n)) (t .regular .places m n)) in
+      let l = next-same m (place b m) refl (sym (places m n)) (s .regular .places m n)
+      (subst (PlaceGood z d m) (sym (places m n)) (t .regular .places m n)) in
       λ i. withLink (messages m n i) (l i)
 
   pub same-board : b ≡ d

@@ -17,7 +17,7 @@ use Rattle.paper.proofs.Notches.{heldWithLink, waitsWithQueue, evenInQueue, par
 use Rattle.paper.proofs.Notches.{senderAbsent, evenHeld, parkedWithQueue, earlierEqualDue}
 use Rattle.kept.specs.Claims.{Sizes}
 use Rattle.reached.specs.Claims.{Reached}
-use Rattle.reached.proofs.Theorems.{has-a-past}
+use Rattle.reached.proofs.Theorems.{has-past}
 
 tiny-sizes : Sizes tiny
 tiny-sizes = record { tasks = lit≤ tt; limit = lit≤ tt; links = lit< tt }
@@ -27,7 +27,7 @@ abbrev Unmade : Board → Type 0
 Unmade b = Reached tiny (bytesOf b) → ⊥
 
 unmade : (b : Board) → passes tiny (boardOf tiny (bytesOf b)) ≡ false → Unmade b
-unmade b e r = true≢false (sym (has-a-past tiny tiny-sizes (bytesOf b) .1 r .1) ∙ e)
+unmade b e r = true≢false (sym (has-past tiny tiny-sizes (bytesOf b) .1 r .1) ∙ e)
 
 case-unmade-held-with-link : Unmade heldWithLink
 case-unmade-held-with-link = unmade heldWithLink refl
@@ -55,7 +55,7 @@ small (x ∷ l) e = let r = both (ltb x 256) (every (λ x. ltb x 256) l) e in (l
 made : (b : Board) → length (bytesOf b) ≡ total tiny → every (λ x. ltb x 256) (bytesOf b) ≡ true
     → passes tiny (boardOf tiny (bytesOf b)) ≡ true → Made b
 made b n e p =
-    has-a-past tiny tiny-sizes (bytesOf b) .0 (
+    has-past tiny tiny-sizes (bytesOf b) .0 (
       record {
         long = n;
         bytes = λ i. small-at (bytesOf b) i (small (bytesOf b) e);

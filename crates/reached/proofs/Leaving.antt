@@ -250,16 +250,19 @@ module _ (z : Size) (a : Sizes z) (k : ℕ) (b : Board) (n : Numbered (z .tasks)
   there-j : (j : ℕ) → j ≢ k → present y j ≡ present b j
   there-j j g = ap isThere (task-other d k j parked g) ∙ ap isThere (sheet-j j g)
 
-  turned : Turned z (Stage z Parked 0) Named b k (back (sets (install z b k guestStat guestPrio 0 0) k IWAT) (PostInterrupt k ∷ CancelTask k ∷ []))
+  turned : Turned z (Stage z Parked 0) Named b k
+      (back (sets (install z b k guestStat guestPrio 0 0) k IWAT) (PostInterrupt k ∷ CancelTask k ∷ []))
   turned = record {
     earlier = record {
       inv = stage-y;
       makes = makes-then z y e b (PostInterrupt k ∷ []) (CancelTask k ∷ [])
-          (subst (λ (w : Board). Makes z w (PostInterrupt k ∷ []) e) same (makes-start z a k k e n bare-e ready-d refl only)) makes-cancel;
+          (subst (λ (w : Board). Makes z w (PostInterrupt k ∷ []) e) same (makes-start z a k k e n bare-e ready-d refl only))
+          makes-cancel;
     };
     simple = λ m h. there-k;
     keeps = λ j i g m h.
-        there-j j (λ w. absurd (omega arith)) ∙ g m (sym (ap (λ (u : Message). u .rptr) (order-message (withTask b k guest) l m)) ∙ h);
+        there-j j (λ w. absurd (omega arith))
+        ∙ g m (sym (ap (λ (u : Message). u .rptr) (order-message (withTask b k guest) l m)) ∙ h);
   }
 
 -- back over k, if it is absent and an RPTR names it
@@ -271,7 +274,8 @@ turn-left z a k b n v =
     (λ t. turned-here z (Stage z Parked 0) Named b k v (λ m e. named t m e (present b k) refl))
     (λ t. turned z a k b n v (neither (present b k) (unnamed z b k) t .0))
   where
-    named : present b k || unnamed z b k ≡ true → (m : ℕ) → message b m .rptr ≡ k → (u : Bool) → present b k ≡ u → present b k ≡ true
+    named : present b k || unnamed z b k ≡ true → (m : ℕ) → message b m .rptr ≡ k → (u : Bool) → present b k ≡ u
+        → present b k ≡ true
     named t m e true u = u
     named t m e false u =
         let i : Numbered (z .messages) m =

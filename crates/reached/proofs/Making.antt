@@ -75,7 +75,8 @@ pub go-from : (t : Test) (tests : List Test) → t .applies ≡ false → lowest
 go-from t tests e g = rw (e, lowest) g
 
 -- ---- one call more: on y, where c runs, it makes x, where d runs; either the same task or the only one that is ready on x
-module _ (z : Size) (a : Sizes z) (y : Board) (c : ℕ) (p : Passing z y c) (call : Call) (x : Board) (d : ℕ) (q : Passing z x d) where
+module _ (z : Size) (a : Sizes z) (y : Board) (c : ℕ) (p : Passing z y c) (call : Call) (x : Board) (d : ℕ)
+    (q : Passing z x d) where
   abbrev l : List ℕ
   l = bytesOf y
 
@@ -85,7 +86,8 @@ module _ (z : Size) (a : Sizes z) (y : Board) (c : ℕ) (p : Passing z y c) (cal
 
   settled-e : Settled z e (q .order) (q .queues)
   settled-e =
-      settled-running z x (q .order) (q .queues) c (runs-byte z y (p .order) (p .queues) a (p .settled) c (p .rightly)) (q .settled)
+      settled-running z x (q .order) (q .queues) c (runs-byte z y (p .order) (p .queues) a (p .settled) c (p .rightly))
+      (q .settled)
 
   next-is : (d ≡ c) ⊎ ((j : ℕ) → ready x j ≡ true → j ≡ d) → runsNext z e ≡ d
   next-is w = step w (ℕ-discrete d 0) (ℕ-discrete (runsNext z e) 0)
@@ -113,7 +115,8 @@ module _ (z : Size) (a : Sizes z) (y : Board) (c : ℕ) (p : Passing z y c) (cal
   dispatch-leaves : runsNext z e ≡ d → (v : ℕ) → dispatch z l (undispatched v e) ≡ accepted v d 0 (bytesOf x)
   dispatch-leaves n v =
       ap (λ (k : ℕ). dispatchTo z l (undispatched v (withRunning e k)) k) n
-      ∙ ap (λ (t : Bool). cond t (deliver z l (undispatched v (withRunning e d)) d) (accepted v d 0 (bytesOf (withRunning e d)))) (q .idle)
+      ∙ ap (λ (t : Bool). cond t (deliver z l (undispatched v (withRunning e d)) d) (accepted v d 0 (bytesOf (withRunning e d))))
+      (q .idle)
       ∙ ap (λ (k : ℕ). accepted v d 0 (bytesOf (withRunning x k))) (sym (q .runs))
 
   pub makes-call : Fitting call → lowest (ownRow z y c call) ≡ Go → body z y c call .board ≡ withRunning x c

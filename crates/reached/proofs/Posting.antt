@@ -83,9 +83,13 @@ module _ (z : Size) (a : Sizes z) (c k : ℕ) (b : Board) (n : Numbered (z .task
   turned : Turned z (λ d. Passing z d c) (λ d j. Quiet (task d j)) b k (back (clears b k INTQ) (PostInterrupt k ∷ []))
   turned =
       let v : Stage z (λ t. Unit {0}) c b = record { passing = p; all = λ j h. tt } in
-      let r = turn-stat z c (λ t. Unit {0}) Quiet b v k n (withoutBit s INTQ) (PostInterrupt k ∷ []) tt (withoutBit-has s INTQ refl)
-      passing-y makes-post in
-      record { earlier = record { inv = r .earlier .inv .passing; makes = r .earlier .makes }; simple = r .simple; keeps = r .keeps }
+      let r = turn-stat z c (λ t. Unit {0}) Quiet b v k n (withoutBit s INTQ) (PostInterrupt k ∷ []) tt
+      (withoutBit-has s INTQ refl) passing-y makes-post in
+      record {
+        earlier = record { inv = r .earlier .inv .passing; makes = r .earlier .makes };
+        simple = r .simple;
+        keeps = r .keeps;
+      }
 
 -- back over an interrupt that is queued at k, if any
 pub turn-posted : (z : Size) → Sizes z → (c k : ℕ) (b : Board) → Numbered (z .tasks) k → Passing z b c

@@ -109,7 +109,8 @@ module _ (z : Size) (a : Sizes z) (k : ℕ) (b : Board) (n : Numbered (z .tasks)
   makes-receive : Makes z y (ReceiveAndWait ∷ []) b
   makes-receive =
       makes-call z a y k (bare-y .passing) ReceiveAndWait b 0 p (tt, tt)
-      (go-receive-wait z y k (λ w. absurd (omega (arith, n .0, w)))) waits-again (inr (λ j r. absurd (true≢false (sym r ∙ still j))))
+      (go-receive-wait z y k (λ w. absurd (omega (arith, n .0, w)))) waits-again
+      (inr (λ j r. absurd (true≢false (sym r ∙ still j))))
 
   -- ---- and before that it was parked
   abbrev w : Board

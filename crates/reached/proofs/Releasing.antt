@@ -97,13 +97,16 @@ module _ (z : Size) (a : Sizes z) (m : ℕ) (b : Board) (n : Numbered (z .messag
   makes-release =
       makes-call z a (awoken y k) k (passing-awoken z a y passing-y still k kn parked) (Release m) (awoken b k) k
       (passing-awoken z a b p still k kn parked) ((message-word z a m n, tt), tt)
-      (go-held z (awoken y k) k m [] (λ (h : k ≡ 0). absurd (omega (arith, kn .0))) n (place-put b m (HeldBy (taskNo k)) numbered) refl)
+      (go-held z (awoken y k) k m [] (λ (h : k ≡ 0). absurd (omega (arith, kn .0))) n
+      (place-put b m (HeldBy (taskNo k)) numbered) refl)
       released-again (inl refl)
 
   makes-all : Makes z y (PostInterrupt k ∷ Release m ∷ WaitForInterrupt ∷ []) b
   makes-all =
-      makes-then z y (awoken y k) b (PostInterrupt k ∷ []) (Release m ∷ WaitForInterrupt ∷ []) (makes-wake z a y passing-y still k kn parked)
-      (makes-then z (awoken y k) (awoken b k) b (Release m ∷ []) (WaitForInterrupt ∷ []) makes-release (makes-wait z a b p still k kn parked))
+      makes-then z y (awoken y k) b (PostInterrupt k ∷ []) (Release m ∷ WaitForInterrupt ∷ [])
+      (makes-wake z a y passing-y still k kn parked)
+      (makes-then z (awoken y k) (awoken b k) b (Release m ∷ []) (WaitForInterrupt ∷ []) makes-release
+      (makes-wait z a b p still k kn parked))
 
   not-free : (HeldBy (taskNo k)) ≢ Free
   not-free h = true≢false (sym (ap isFree h))
@@ -124,9 +127,11 @@ pub turn-released : (z : Size) → Sizes z → (m : ℕ) (b : Board) → Numbere
 turn-released z a m b n v =
     cond-holds (Turned z (Hosted z) (λ d j. place d j ≡ Free → place d (suc j) ≡ Free) b m)
     (isFree (place b m) && not (isFree (place b (suc m))))
-    (back (withPlace b m (place b (suc m))) (PostInterrupt (holder (place b (suc m))) ∷ Release m ∷ WaitForInterrupt ∷ [])) (here b)
+    (back (withPlace b m (place b (suc m))) (PostInterrupt (holder (place b (suc m))) ∷ Release m ∷ WaitForInterrupt ∷ []))
+    (here b)
     (λ t. let (f, u) = both (isFree (place b m)) (not (isFree (place b (suc m)))) t in
-    went (says-isFree (place b m) .0 f) (λ h. true≢false (sym (says-isFree (place b (suc m)) .1 h) ∙ not-true (isFree (place b (suc m))) u)))
+    went (says-isFree (place b m) .0 f)
+    (λ h. true≢false (sym (says-isFree (place b (suc m)) .1 h) ∙ not-true (isFree (place b (suc m))) u)))
     (λ t. turned-here z (Hosted z) (λ d j. place d j ≡ Free → place d (suc j) ≡ Free) b m v (free t))
   where
     free : isFree (place b m) && not (isFree (place b (suc m))) ≡ false → place b m ≡ Free → place b (suc m) ≡ Free
@@ -134,11 +139,13 @@ turn-released z a m b n v =
       where
         step : (u : Bool) → isFree (place b (suc m)) ≡ u → place b (suc m) ≡ Free
         step true i = says-isFree (place b (suc m)) .0 i
-        step false i = absurd (true≢false (sym (and-true (isFree (place b m)) (not (isFree (place b (suc m)))) (ap isFree e) (ap not i)) ∙ t))
+        step false i =
+            absurd (true≢false (sym (and-true (isFree (place b m)) (not (isFree (place b (suc m)))) (ap isFree e) (ap not i)) ∙ t))
 
     went : place b m ≡ Free → place b (suc m) ≢ Free → Turned z (Hosted z) (λ d j. place d j ≡ Free → place d (suc j) ≡ Free) b m
         (back (withPlace b m (place b (suc m))) (PostInterrupt (holder (place b (suc m))) ∷ Release m ∷ WaitForInterrupt ∷ []))
     went e u =
         let (k, h) = used-held z b (v .stage) (suc m) u in
         subst (λ (x : Place). Turned z (Hosted z) (λ d j. place d j ≡ Free → place d (suc j) ≡ Free) b m
-        (back (withPlace b m x) (PostInterrupt (holder x) ∷ Release m ∷ WaitForInterrupt ∷ []))) (sym h) (turned z a m b n v e k h)
+        (back (withPlace b m x) (PostInterrupt (holder x) ∷ Release m ∷ WaitForInterrupt ∷ []))) (sym h)
+        (turned z a m b n v e k h)

@@ -76,7 +76,8 @@ module _ (z : Size) (c : ℕ) (Q P : Task → Type 0) (b : Board) (v : Stage z Q
   }
 
 -- ---- rows that refuse nothing
-pub go-post : (z : Size) (y : Board) (c k : ℕ) → Numbered (z .tasks) k → present y k ≡ true → lowest (ownRow z y c (PostInterrupt k)) ≡ Go
+pub go-post : (z : Size) (y : Board) (c k : ℕ) → Numbered (z .tasks) k → present y k ≡ true
+    → lowest (ownRow z y c (PostInterrupt k)) ≡ Go
 go-post z y c k n p =
     let o = within-outside (z .tasks) k (n .0) (n .1) in
     go-from (no6 z y k) [] (rw (o, p)) refl
@@ -91,8 +92,8 @@ pub task-word : (z : Size) → Sizes z → (k : ℕ) → Numbered (z .tasks) k �
 task-word z a k n = omega (arith, a .tasks, n .1)
 
 -- the caller holds the message
-pub go-held : (z : Size) (y : Board) (c m : ℕ) (tests : List Test) → c ≢ 0 → Numbered (z .messages) m → place y m ≡ HeldBy (taskNo c)
-    → lowest tests ≡ Go → lowest (no3 c ∷ no4 z m ∷ no5 y c m ∷ tests) ≡ Go
+pub go-held : (z : Size) (y : Board) (c m : ℕ) (tests : List Test) → c ≢ 0 → Numbered (z .messages) m
+    → place y m ≡ HeldBy (taskNo c) → lowest tests ≡ Go → lowest (no3 c ∷ no4 z m ∷ no5 y c m ∷ tests) ≡ Go
 go-held z y c m tests h n e g =
     go-from (no3 c) (no4 z m ∷ no5 y c m ∷ tests) (ne-eqb c 0 h)
     (go-from (no4 z m) (no5 y c m ∷ tests) (within-outside (z .messages) m (n .0) (n .1))
@@ -110,7 +111,8 @@ parked-still z c b v j =
     true≢false (sym (v .all j n .1 (t .0)) ∙ t .2))
 
 -- ---- where no message is queued, one that isn't free is held
-pub used-held : (z : Size) (b : Board) → Stage z Parked 0 b → (m : ℕ) → place b m ≢ Free → (k : ℕ) × (place b m ≡ HeldBy (taskNo k))
+pub used-held : (z : Size) (b : Board) → Stage z Parked 0 b → (m : ℕ) → place b m ≢ Free
+    → (k : ℕ) × (place b m ≡ HeldBy (taskNo k))
 used-held z b v m h =
     let p = v .passing in
     let s = p .settled in

@@ -60,7 +60,8 @@ module _ (z : Size) (a : Sizes z) (c : ℕ) (b : Board) (v : Stage z Quiet c b) 
   parked : ((j : ℕ) → ready b j ≡ false) → (j : ℕ) → Numbered (z .tasks) j → task b j .mptr ≢ 0 → has (task b j .stat) IWAT ≡ true
   parked still j n e = split (v .passing .settled .regular .records j n) (has (task b j .stat) IWAT) refl
     where
-      split : (task b j ≡ noTask) ⊎ Proper (task b j) → (t : Bool) → has (task b j .stat) IWAT ≡ t → has (task b j .stat) IWAT ≡ true
+      split : (task b j ≡ noTask) ⊎ Proper (task b j) → (t : Bool) → has (task b j .stat) IWAT ≡ t
+          → has (task b j .stat) IWAT ≡ true
       split r true i = i
       split (inl d) false i = absurd (e (ap (λ (t : Task). t .mptr) d))
       split (inr d) false i =

@@ -52,7 +52,10 @@ module _ (z : Size) (Inv : Board → Type 0) (P : Board → ℕ → Type 0) (n :
   down (suc i) h b v =
       let t = turn (suc i) b (omega arith, h) (v .0) (v .1) in
       is-further z (λ d. Inv d × Above P n i d) _ b (line b (suc i)) (sweep line i)
-      (record { inv = (t .earlier .inv, λ j g e. more j g (t .simple) (λ k. t .keeps j k (v .1 j k e)) (ℕ-discrete j (suc i))); makes = t .earlier .makes })
+      (record {
+        inv = (t .earlier .inv, λ j g e. more j g (t .simple) (λ k. t .keeps j k (v .1 j k e)) (ℕ-discrete j (suc i)));
+        makes = t .earlier .makes;
+      })
       (λ d w. down i (omega arith) d w)
     where
       more : (j : ℕ) → i < j → P (line b (suc i) .board) (suc i) → (suc i < j → P (line b (suc i) .board) j) → Dec (j ≡ suc i)

@@ -24,7 +24,7 @@ use Rattle.kept.proofs.Fitting.{fits-board}
 use Rattle.kept.proofs.Theorems.{small-sizes, sound-settled, passing-sound, passing-stays-passing}
 use Rattle.kept.proofs.Fresh.{fresh-bytes, fresh-passes}
 use Rattle.past.specs.Past.{past, wayBack}
-use Rattle.reached.specs.Claims.{Reached, HasAPast, IsAccepted, PastRebuilds, MadeFresh, CheckedExactly}
+use Rattle.reached.specs.Claims.{Reached, HasPast, IsAccepted, PastRebuilds, MadeFresh, CheckedExactly}
 use Rattle.reached.proofs.Making.{Passing}
 use Rattle.reached.proofs.WayBack.{all-back}
 
@@ -64,8 +64,8 @@ past-rebuilds z a l h p =
     )
 
 -- document 02, Ask 4
-pub has-a-past : HasAPast
-has-a-past z a l = (
+pub has-past : HasPast
+has-past z a l = (
   (λ g. let (f, e, o) = past-rebuilds z a l (g .0) (g .1) in (past z (boardOf z l), f, e)),
   reached-good z a l,
 )

@@ -48,7 +48,8 @@ none-due z b order queues s h c = refuted (has (task b c .stat) MHBS) (λ e. ste
     step e n = s .flags c n .due e (h c n)
 
 -- ---- k is ready and no message is queued: it is parked instead
-module _ (z : Size) (a : Sizes z) (c k : ℕ) (b : Board) (n : Numbered (z .tasks) k) (v : Stage z Bare c b) (e : ready b k ≡ true) where
+module _ (z : Size) (a : Sizes z) (c k : ℕ) (b : Board) (n : Numbered (z .tasks) k) (v : Stage z Bare c b)
+    (e : ready b k ≡ true) where
   abbrev s : Status
   s = task b k .stat
 

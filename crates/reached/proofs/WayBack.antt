@@ -46,7 +46,8 @@ fresh-is z b u =
     let s : Settled z b [] (p .queues) = subst (λ (q : List ℕ). Settled z b q (p .queues)) (u .order) (p .settled) in
     same-board z b (boardOf z (blank z)) [] (p .queues) (λ k. []) s (fresh-settled z) (p .runs ∙ sym (fresh-zeros z 1))
     (λ k n. no-queue k (p .queues k) (s .regular .linked .messages k n .chain) (u .stage .all k n .0))
-    (λ k n. ap sheet (absent-none (task b k) (s .regular .records k n) (refuted (present b k) (λ e. s .regular .linked .tasks .exact k .1 e))
+    (λ k n. ap sheet (absent-none (task b k) (s .regular .records k n)
+    (refuted (present b k) (λ e. s .regular .linked .tasks .exact k .1 e))
     ∙ sym (fresh-task z k)))
     (λ m n. ap block (subst (PlaceGood z b m) (u .free m n) (s .regular .places m n) ∙ sym (fresh-message z m)))
     (λ m n. u .free m n ∙ sym (fresh-place z m))
@@ -132,7 +133,8 @@ module _ (z : Size) (a : Sizes z) where
 
   from-hosted : (b : Board) → Hosted z b → Earlier z Fresh b (through toMessages b)
   from-hosted b v =
-      is-further z (Filled z) Fresh b (sweep released (z .messages) b) (through (sweep claimed (z .messages) ∷ toTasks)) (back-released b v)
+      is-further z (Filled z) Fresh b (sweep released (z .messages) b) (through (sweep claimed (z .messages) ∷ toTasks))
+      (back-released b v)
       (λ d w. is-further z SomeUnused Fresh d (sweep claimed (z .messages) d) (through toTasks) (back-claimed d w) from-unused)
 
   abbrev toParked : List (Board → Back)
@@ -140,7 +142,8 @@ module _ (z : Size) (a : Sizes z) where
 
   from-still : (b : Board) → Stage z Still 0 b → Earlier z Fresh b (through toParked b)
   from-still b v =
-      is-further z (Stage z Parked 0) Fresh b (sweep waited (z .tasks) b) (through (sweep (left z) (z .tasks) ∷ toMessages)) (back-waited b v)
+      is-further z (Stage z Parked 0) Fresh b (sweep waited (z .tasks) b) (through (sweep (left z) (z .tasks) ∷ toMessages))
+      (back-waited b v)
       (λ d w. is-further z (Hosted z) Fresh d (sweep (left z) (z .tasks) d) (through toMessages) (back-left d w) from-hosted)
 
   abbrev toStill : List (Board → Back)

@@ -1,7 +1,7 @@
 -- Document 02, Ask 4, as statements; their proofs are in proofs/Theorems. A reader must believe this file, and needs passes, run, blank
 -- and Call of paper to read the first.
 --   Reached z l      some list of the nineteen calls, made from the fresh board, ends in the bytes l
---   HasAPast         a list is the bytes of a board that passes exactly if it is reached
+--   HasPast         a list is the bytes of a board that passes exactly if it is reached
 --   PastRebuilds     the calls that past gives of a board that passes end in its very bytes, and none of them is refused
 --   MadeFresh l calls d   code that meets the contracts of fresh and of the step (Rattle.station, src/lib.rt), lent l, makes it fresh, makes
 --                    these calls and leaves d
@@ -35,8 +35,8 @@ abbrev pub Reached : Size → List ℕ → Type 0
 Reached z l = (calls : List Call) × AllFit calls × (run z (blank z) calls .after ≡ l)
 
 -- Bytes: a list of bytes, as many as a board has
-abbrev pub HasAPast : Type 0
-HasAPast = (z : Size) → Sizes z → (l : List ℕ) → (Bytes z l × (passes z (boardOf z l) ≡ true)) ↔ Reached z l
+abbrev pub HasPast : Type 0
+HasPast = (z : Size) → Sizes z → (l : List ℕ) → (Bytes z l × (passes z (boardOf z l) ≡ true)) ↔ Reached z l
 
 -- ---- which past
 abbrev pub IsAccepted : Answer → Type 0
