@@ -29,42 +29,42 @@ use Rattle.kept.proofs.Fitting.{fits-board}
 use Rattle.kept.proofs.Theorems.{settled-passes}
 
 -- ---- lists of zeros
-abbrev pub Zeros : List ℕ → Type 0
+abbrev Zeros : List ℕ → Type 0
 Zeros l = (i : ℕ) → getD l i 0 ≡ 0
 
-pub zeros-replicate : (n : ℕ) → Zeros (replicate n 0)
+zeros-replicate : (n : ℕ) → Zeros (replicate n 0)
 zeros-replicate zero i = refl
 zeros-replicate (suc n) zero = refl
 zeros-replicate (suc n) (suc i) = zeros-replicate n i
 
-pub zeros-all : (l : List ℕ) → Zeros l → All (λ x. x ≡ 0) l
+zeros-all : (l : List ℕ) → Zeros l → All (λ x. x ≡ 0) l
 zeros-all [] h = tt
 zeros-all (x ∷ l) h = (h 0, zeros-all l (λ i. h (suc i)))
 
-pub zeros-drop : (w : ℕ) (l : List ℕ) → Zeros l → Zeros (drop w l)
+zeros-drop : (w : ℕ) (l : List ℕ) → Zeros l → Zeros (drop w l)
 zeros-drop w l h i = getD-drop w l i 0 ∙ h (w + i)
 
-pub zeros-take : (w : ℕ) (l : List ℕ) → Zeros l → Zeros (take w l)
+zeros-take : (w : ℕ) (l : List ℕ) → Zeros l → Zeros (take w l)
 zeros-take zero l h i = refl
 zeros-take (suc w) [] h i = refl
 zeros-take (suc w) (x ∷ l) h zero = h 0
 zeros-take (suc w) (x ∷ l) h (suc i) = zeros-take w l (λ j. h (suc j)) i
 
-pub zeros-cut : (n w : ℕ) (l : List ℕ) → Zeros l → (i : ℕ) → Zeros (getD (cut n w l) i [])
+zeros-cut : (n w : ℕ) (l : List ℕ) → Zeros l → (i : ℕ) → Zeros (getD (cut n w l) i [])
 zeros-cut zero w l h i = λ j. refl
 zeros-cut (suc n) w l h zero = zeros-take w l h
 zeros-cut (suc n) w l h (suc i) = zeros-cut n w (drop w l) (zeros-drop w l h) i
 
-pub zeros-piece : (a : Area) (l : List ℕ) → Zeros l → (k : ℕ) → Zeros (nth [] (pieces a l) k)
+zeros-piece : (a : Area) (l : List ℕ) → Zeros l → (k : ℕ) → Zeros (nth [] (pieces a l) k)
 zeros-piece a l h zero = λ j. refl
 zeros-piece a l h (suc i) = zeros-cut (a .count) (a .stride) (drop (a .base) l) (zeros-drop (a .base) l h) i
 
 -- ---- records of zeros
 module _ (p : List ℕ) (h : Zeros p) where
-  pub zero-word : (i : ℕ) → wordAt p i ≡ 0
+  zero-word : (i : ℕ) → wordAt p i ≡ 0
   zero-word i = ap₂ (λ (x y : ℕ). x + 256 * y) (h i) (h (i + 1))
 
-  pub zero-task : taskOf p ≡ noTask
+  zero-task : taskOf p ≡ noTask
   zero-task = λ i. record {
     stat = stored (h 0 i);
     prio = h 1 i;
@@ -74,7 +74,7 @@ module _ (p : List ℕ) (h : Zeros p) where
     name = zero-word 8 i;
   }
 
-  pub zero-message : messageOf p ≡ noMessage
+  zero-message : messageOf p ≡ noMessage
   zero-message = λ i. record {
     stat = h 0 i;
     prio = h 1 i;
@@ -83,7 +83,7 @@ module _ (p : List ℕ) (h : Zeros p) where
     sptr = zero-word 6 i;
   }
 
-  pub zero-place : (z : Size) → placeIn z p ≡ places.Free
+  zero-place : (z : Size) → placeIn z p ≡ places.Free
   zero-place z = ap (placeOf z) (h 0)
 
 -- ---- the fresh board
@@ -144,7 +144,7 @@ module _ (z : Size) where
   }
 
   -- nobody runs, for nobody is ready
-  pub fresh-runs : RunsRightly b (b .running)
+  fresh-runs : RunsRightly b (b .running)
   fresh-runs = record {
     nobody = ((λ e k. ap (λ (t : Task). isReady (t .stat)) (fresh-task k)), λ e. fresh-zeros 1);
     leads = λ n. absurd (n (fresh-zeros 1));

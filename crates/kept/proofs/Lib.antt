@@ -16,3 +16,8 @@ pub mod Bodies
 pub mod Theorems
 pub mod WhoRuns
 pub mod Fresh
+pub mod Going
+pub mod Statuses
+pub mod SameBoard
+pub mod Mail
+pub mod Crew

@@ -8,14 +8,14 @@ use Prim.Native.Nat.{ℕ}
 use lib.Dec.{eqb}
 use borrow.Author.Tests.{eqb-true, eqb-false, ne-eqb}
 use Rattle.links.specs.Chain.{In, Chain}
-use Rattle.links.proofs.Bools.{cond-holds}
+use Rattle.links.proofs.Bools.{refuted, cond-holds}
 use Rattle.board.specs.declared.numbers.Size.{Size}
 use Rattle.board.specs.declared.status.Status.{Status}
 use Rattle.board.specs.declared.records.Task.{Task}
 use Rattle.board.specs.declared.places.Place.the-variants.{QueuedAt}
 use Rattle.board.specs.Numbers.{taskNo, Numbered}
 use Rattle.board.specs.Status.{WAIT, IWAT, MHBS, TCBB, has, withBit, withoutBit}
-use Rattle.board.specs.Records.{taskWithStat}
+use Rattle.board.specs.Records.{noTask, taskWithStat}
 use Rattle.board.specs.Board.{Board, task, place}
 use Rattle.board.proofs.Bits.{withBit-other, withoutBit-has, withoutBit-other}
 use Rattle.paper.specs.declared.call.Call.the-variants.{ReceiveAndWait}
@@ -23,6 +23,7 @@ use Rattle.paper.specs.Rules.{present, nextMessage, emptyQueue}
 use Rattle.paper.specs.Changes.{sets, clears}
 use Rattle.paper.specs.Effects.{woken, waits, emptied}
 use Rattle.paper.specs.Refusals.{no3, ownRow, Go, lowest}
+use Rattle.paper.proofs.Which.{nth-numbered}
 use Rattle.linked.specs.Linked.{Linked}
 use Rattle.linked.specs.Sound.{Flags}
 use Rattle.linked.proofs.Running.{present-numbered, ready-says}
@@ -34,11 +35,6 @@ use Rattle.kept.proofs.Flagging.{Apart, apart-WAIT, apart-MHBS}
 -- ---- a task that waits for nothing and is due nothing
 abbrev pub Idle : Status → Type 0
 Idle s = (has s WAIT ≡ false) × (has s IWAT ≡ false) × (has s MHBS ≡ false)
-
--- a test that cannot pass fails
-clear : (t : Bool) → (t ≡ true → ⊥) → t ≡ false
-clear true h = absurd (h refl)
-clear false h = refl
 
 module _ (s : Status) (Empty : Type 0) (f : Flags s Empty) where
   -- one that waited is idle when it waits no more
@@ -52,8 +48,8 @@ module _ (s : Status) (Empty : Type 0) (f : Flags s Empty) where
   -- one that was due a message is idle when it is due none
   due-idle : has s MHBS ≡ true → Idle (withoutBit s MHBS)
   due-idle e = (
-    withoutBit-other s MHBS WAIT refl ∙ clear (has s WAIT) (λ w. true≢false (sym e ∙ f .waiting w .1)),
-    withoutBit-other s MHBS IWAT refl ∙ clear (has s IWAT) (λ w. true≢false (sym e ∙ f .parked w .1)),
+    withoutBit-other s MHBS WAIT refl ∙ refuted (has s WAIT) (λ w. true≢false (sym e ∙ f .waiting w .1)),
+    withoutBit-other s MHBS IWAT refl ∙ refuted (has s IWAT) (λ w. true≢false (sym e ∙ f .parked w .1)),
     withoutBit-has s MHBS refl,
   )
 
@@ -64,7 +60,7 @@ module _ (s : Status) (Empty : Type 0) (f : Flags s Empty) where
 
   -- one with a queue doesn't wait
   pub queue-awake : (Empty → ⊥) → has s WAIT ≡ false
-  queue-awake n = clear (has s WAIT) (λ w. n (f .waiting w .0))
+  queue-awake n = refuted (has s WAIT) (λ w. n (f .waiting w .0))
 
 -- ---- the wait
 module _ (z : Size) (b : Board) (order : List ℕ) (queues : ℕ → List ℕ) (c : ℕ) (there : present b c ≡ true) where
@@ -107,6 +103,14 @@ queued-starts z b order queues l r m n e = let g = l .messages r n in step (queu
     step : (q : List ℕ) → Chain (nextMessage b) (task b r .mptr) q → In m q → task b r .mptr ≢ 0
     step [] c i = absurd i
     step (y ∷ q) c i = λ d. c .1 (sym (c .0) ∙ d)
+
+-- with no message queued nobody is due one
+pub none-due : (z : Size) (b : Board) (order : List ℕ) (queues : ℕ → List ℕ) → Settled z b order queues
+    → ((k : ℕ) → Numbered (z .tasks) k → task b k .mptr ≡ 0) → (c : ℕ) → has (task b c .stat) MHBS ≡ false
+none-due z b order queues s h c = refuted (has (task b c .stat) MHBS) (λ e. s .flags c (numbered e) .due e (h c (numbered e)))
+  where
+    numbered : has (task b c .stat) MHBS ≡ true → Numbered (z .tasks) c
+    numbered e = rw (s .fits .tasks) at (nth-numbered noTask (λ (t : Task). has (t .stat) MHBS) (b .tasks) refl c e)
 
 -- ---- the flags of r still to be settled
 -- all but them is settled, and they went together with the queue before, of which Empty says that it was empty

@@ -29,35 +29,35 @@ equals = withRunning (withTask sound 2 (record { stat = stored 0x01; prio = 0x31
 abbrev pub heldWithLink : Board
 heldWithLink = linkMessage holding 1 2
 
-pub case-held-with-link : passes tiny heldWithLink ≡ false
+case-held-with-link : passes tiny heldWithLink ≡ false
 case-held-with-link = refl
 
 -- WAIT with a queue
 abbrev pub waitsWithQueue : Board
 waitsWithQueue = sets sound 2 WAIT
 
-pub case-waits-with-queue : passes tiny waitsWithQueue ≡ false
+case-waits-with-queue : passes tiny waitsWithQueue ≡ false
 case-waits-with-queue = refl
 
 -- an even PRIO in a queue
 abbrev pub evenInQueue : Board
 evenInQueue = withMessage sound 3 (withPrio (message sound 3) 0x10)
 
-pub case-even-in-queue : passes tiny evenInQueue ≡ false
+case-even-in-queue : passes tiny evenInQueue ≡ false
 case-even-in-queue = refl
 
 -- INTQ with IWAT
 abbrev pub parkedWithInterrupt : Board
 parkedWithInterrupt = sets (sets sound 2 IWAT) 2 INTQ
 
-pub case-parked-with-interrupt : passes tiny parkedWithInterrupt ≡ false
+case-parked-with-interrupt : passes tiny parkedWithInterrupt ≡ false
 case-parked-with-interrupt = refl
 
 -- byte 1 names the later of two ready tasks of different numbers
 abbrev pub laterRuns : Board
 laterRuns = withRunning sound 2
 
-pub case-later-runs : passes tiny laterRuns ≡ false
+case-later-runs : passes tiny laterRuns ≡ false
 case-later-runs = refl
 
 -- ---- a notch stricter
@@ -65,26 +65,26 @@ case-later-runs = refl
 abbrev pub senderAbsent : Board
 senderAbsent = withMessage holding 1 (withSptr (message holding 1) 3)
 
-pub case-sender-absent : passes tiny senderAbsent ≡ true
+case-sender-absent : passes tiny senderAbsent ≡ true
 case-sender-absent = refl
 
 -- a held message with an even PRIO
 abbrev pub evenHeld : Board
 evenHeld = withMessage holding 1 (withPrio (message holding 1) 0x10)
 
-pub case-even-held : passes tiny evenHeld ≡ true
+case-even-held : passes tiny evenHeld ≡ true
 case-even-held = refl
 
 -- IWAT with a queue that isn't empty
 abbrev pub parkedWithQueue : Board
 parkedWithQueue = sets sound 2 IWAT
 
-pub case-parked-with-queue : passes tiny parkedWithQueue ≡ true
+case-parked-with-queue : passes tiny parkedWithQueue ≡ true
 case-parked-with-queue = refl
 
 -- an earlier equal is due a message
 abbrev pub earlierEqualDue : Board
 earlierEqualDue = sets equals 1 MHBS
 
-pub case-earlier-equal-due : passes tiny earlierEqualDue ≡ true
+case-earlier-equal-due : passes tiny earlierEqualDue ≡ true
 case-earlier-equal-due = refl

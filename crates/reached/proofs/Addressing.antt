@@ -31,7 +31,7 @@ use Rattle.paper.specs.declared.call.Call.the-variants.{Send, CancelMessage}
 use Rattle.paper.specs.Rules.{present, queue}
 use Rattle.paper.specs.Changes.{withQueue, hold}
 use Rattle.paper.specs.Effects.{ownPrio, addressed, send, cancelMessage}
-use Rattle.paper.specs.Refusals.{no3, no4, no6, no12, no13, ownRow, Go, lowest}
+use Rattle.paper.specs.Refusals.{no4, no6, no12, no13, ownRow, Go, lowest}
 use Rattle.linked.proofs.Chosen.{runs-alike}
 use Rattle.kept.specs.Settled.{Settled, Fitting}
 use Rattle.kept.specs.Touched.{IntoQueue, OutOfQueue, forMessages, queuesAfter, Frame}
@@ -41,11 +41,11 @@ use Rattle.kept.proofs.Holding.{unqueued-out, held-numbered, held-good, settled
 use Rattle.kept.proofs.Waiting.{task-numbered}
 use Rattle.kept.proofs.Placing.{newRecord, addressed-reads}
 use Rattle.kept.proofs.Bodies.{body-settles, body-frame}
-use Rattle.reached.proofs.Making.{Passing, Makes, makes-then, makes-call, go-from}
-use Rattle.reached.proofs.Stages.{go-held, task-word, message-word}
-use Rattle.reached.proofs.Alike.{sheet, block, same-board}
-use Rattle.reached.proofs.Mail.{Waits, again, not as no-wait, back-message, back-place, held-stat, back-waits}
-use Rattle.reached.proofs.Mail.{Woke, wakes, stays, placed-message, placed-place, placed-stat, placing, placed-wakes}
+use Rattle.reached.proofs.Making.{Passing, Makes, makes-then, makes-call}
+use Rattle.kept.proofs.SameBoard.{sheet, block, same-board}
+use Rattle.kept.proofs.Mail.{Waits, again, unchanged, back-message, back-place, held-stat, back-waits}
+use Rattle.kept.proofs.Mail.{Woke, wakes, stays, placed-message, placed-place, placed-stat, placing, placed-wakes}
+use Rattle.kept.proofs.Going.{go-runs, go-there, go-from, go-held, message-word, task-word}
 use Rattle.reached.proofs.Parking.{runs-same}
 
 -- the record that comes of it
@@ -110,8 +110,7 @@ module _ (z : Size) (a : Sizes z) (w : Board) (k : ℕ) (p : Passing z w k) (m :
 
   go-send : lowest (ownRow z w k (Send m x)) ≡ Go
   go-send =
-      let meant : no6 z w x .applies ≡ false = rw (within-outside (z .tasks) x (xn .0) (xn .1), there) refl in
-      go-held z w k m (no6 z w x ∷ []) some mn held (go-from (no6 z w x) [] meant refl)
+      go-held z w k m (no6 z w x ∷ []) some mn held (go-there z w x [] xn there refl)
 
   abbrev g : ℕ → List ℕ
   g = queuesAfter w f (IntoQueue m (ownPrio (message w m .prio) (task w k .prio)) x)
@@ -175,13 +174,12 @@ module _ (z : Size) (a : Sizes z) (w : Board) (k : ℕ) (p : Passing z w k) (m :
   go-cancel : lowest (ownRow z d k (CancelMessage m x)) ≡ Go
   go-cancel =
       let still : present d x ≡ true = ap isPresent (same-d x) ∙ there in
-      let meant : no6 z d x .applies ≡ false = rw (within-outside (z .tasks) x (xn .0) (xn .1), still) refl in
       let queued : no12 d m x .applies ≡ false = ap (λ (i : Place). not (isQueuedAt x i)) place-d ∙ ap not (eq-eqb x x refl) in
       let its : no13 d k m .applies ≡ false =
       ap (λ (i : ℕ). not (eqb i k)) (ap (λ (u : Message). u .sptr) block-d) ∙ ap not (eq-eqb k k refl) in
-      go-from (no3 k) (no4 z m ∷ no6 z d x ∷ no12 d m x ∷ no13 d k m ∷ []) (ne-eqb k 0 some)
+      go-runs k (no4 z m ∷ no6 z d x ∷ no12 d m x ∷ no13 d k m ∷ []) some
       (go-from (no4 z m) (no6 z d x ∷ no12 d m x ∷ no13 d k m ∷ []) (within-outside (z .messages) m (mn .0) (mn .1))
-      (go-from (no6 z d x) (no12 d m x ∷ no13 d k m ∷ []) meant
+      (go-there z d x (no12 d m x ∷ no13 d k m ∷ []) xn still
       (go-from (no12 d m x) (no13 d k m ∷ []) queued (go-from (no13 d k m) [] its refl))))
 
   abbrev h : ℕ → List ℕ
@@ -210,7 +208,7 @@ module _ (z : Size) (a : Sizes z) (w : Board) (k : ℕ) (p : Passing z w k) (m :
       step : Waits (hold (withQueue d x (without m (queue z d x))) k m) x → task b x .stat ≡ task d x .stat
       step (again e i j) =
           absurd (true≢false (sym e ∙ ap (λ (r : Status). has r MHBS) (held-stat z d k m x ∙ same-d x) ∙ due))
-      step (no-wait i) = i ∙ held-stat z d k m x
+      step (unchanged i) = i ∙ held-stat z d k m x
 
   sheets : (j : ℕ) → sheet (task b j) ≡ sheet (task w j)
   sheets j =

@@ -32,7 +32,7 @@ use Rattle.paper.specs.declared.call.Call.{Call}
 use Rattle.paper.specs.declared.call.Call.the-variants.{PostInterrupt, Claim, Prepare, Send, CancelMessage, WaitForInterrupt}
 use Rattle.paper.specs.Rules.{present, ready}
 use Rattle.paper.specs.Effects.{lowestFree, claim, release, prepare}
-use Rattle.paper.specs.Refusals.{no3, no11, no14, ownRow, Go, lowest}
+use Rattle.paper.specs.Refusals.{no11, no14, ownRow, Go, lowest}
 use Rattle.linked.specs.Sound.{PlaceGood}
 use Rattle.linked.proofs.Tests.{says-isFree}
 use Rattle.linked.proofs.Running.{lowest-free}
@@ -42,10 +42,11 @@ use Rattle.kept.specs.Claims.{Sizes}
 use Rattle.kept.proofs.Reading.{nth-cases, task-alike, message-put, place-put, place-other}
 use Rattle.kept.proofs.Holding.{held-good, settled-record, settled-release}
 use Rattle.kept.proofs.Waiting.{task-numbered}
+use Rattle.kept.proofs.Going.{go-runs, go-from, go-held, message-word}
 use Rattle.past.specs.Past.{addressed, claimed}
-use Rattle.reached.proofs.Making.{Passing, Makes, makes-then, makes-call, go-from}
+use Rattle.reached.proofs.Making.{Passing, Makes, makes-then, makes-call}
 use Rattle.reached.proofs.Sweeping.{Turned, turned-here, Above}
-use Rattle.reached.proofs.Stages.{Filled, parked-still, used-held, go-held, message-word}
+use Rattle.reached.proofs.Stages.{Filled, parked-still, used-held}
 use Rattle.reached.proofs.Parking.{awoken, settled-awoken, passing-awoken, makes-wait, makes-wake}
 use Rattle.reached.proofs.Addressing.{addressedTo, settled-addressed, makes-addressed}
 
@@ -210,7 +211,7 @@ module _ (z : Size) (a : Sizes z) (m : ℕ) (b : Board) (mn : Numbered (z .messa
   go-claim : lowest (ownRow z d k Claim) ≡ Go
   go-claim =
       let left : no11 d .applies ≡ false = ne-eqb (lowestFree d) 0 (λ e. absurd (omega (arith, e, lowest-d, mn .0))) in
-      go-from (no3 k) (no11 d ∷ []) (ne-eqb k 0 some) (go-from (no11 d) [] left refl)
+      go-runs k (no11 d ∷ []) some (go-from (no11 d) [] left refl)
 
   makes-claim : Makes z y (PostInterrupt k ∷ Claim ∷ []) (with noMessage)
   makes-claim =

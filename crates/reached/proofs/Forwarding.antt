@@ -25,7 +25,6 @@ use Rattle.board.specs.Status.{WAIT, INTQ, MHBS, TCBB, has, withBit, withoutBit
 use Rattle.board.specs.Records.{withPrio}
 use Rattle.board.specs.Board.{Board, task, message, place}
 use Rattle.board.proofs.Bits.{withoutBit-other, withoutBit-small, set-cleared, clear-set, withBit-has}
-use Rattle.board.proofs.Pieces.{within-outside}
 use Rattle.paper.specs.declared.call.Call.the-variants.{Forward, CancelMessage}
 use Rattle.paper.specs.Rules.{present, nextMessage, messageNumber, queue, ready}
 use Rattle.paper.specs.Changes.{withQueue, hold}
@@ -43,13 +42,14 @@ use Rattle.kept.proofs.Taking.{out-settled}
 use Rattle.kept.proofs.Placing.{held-loose, place-settled}
 use Rattle.kept.proofs.Framed.{Framed, framed-back, framed-forward}
 use Rattle.past.specs.Past.{back, forwarded, queued}
-use Rattle.reached.proofs.Making.{Passing, Makes, makes-call, go-from}
+use Rattle.reached.proofs.Making.{Passing, Makes, makes-call}
 use Rattle.reached.proofs.Sweeping.{Earlier, Turned, unlisted}
-use Rattle.reached.proofs.Statuses.{unready}
-use Rattle.reached.proofs.Stages.{Quiet, Led, go-held, task-word, message-word}
-use Rattle.reached.proofs.Alike.{sheet, block, same-board}
-use Rattle.reached.proofs.Mail.{Waits, again, not as no-wait, back-message, back-place, held-stat, back-waits}
-use Rattle.reached.proofs.Mail.{Woke, wakes, stays, placed-message, placed-place, placed-stat, placing, placed-wakes}
+use Rattle.kept.proofs.Statuses.{unready}
+use Rattle.reached.proofs.Stages.{Quiet, Led}
+use Rattle.kept.proofs.SameBoard.{sheet, block, same-board}
+use Rattle.kept.proofs.Mail.{Waits, again, unchanged, back-message, back-place, held-stat, back-waits}
+use Rattle.kept.proofs.Mail.{Woke, wakes, stays, placed-message, placed-place, placed-stat, placing, placed-wakes}
+use Rattle.kept.proofs.Going.{go-there, go-from, go-held, message-word, task-word}
 use Rattle.reached.proofs.Parking.{runs-same}
 
 -- ---- m is the last in the queue of k, and c runs
@@ -133,7 +133,7 @@ module _ (z : Size) (a : Sizes z) (c k : ℕ) (n : Numbered (z .tasks) k) (b : B
       step (again d g w) =
           let h = held-stat z b c m k in
           inr (sym (ap (λ (t : Status). has t MHBS) h) ∙ d, w ∙ ap (λ (t : Status). withBit (withoutBit t MHBS) WAIT) h)
-      step (no-wait w) = inl (w ∙ held-stat z b c m k)
+      step (unchanged w) = inl (w ∙ held-stat z b c m k)
 
   waits-on : has waiting WAIT ≡ true
   waits-on = withBit-has WAIT refl (withoutBit old MHBS) (withoutBit-small old MHBS (s .fits .task k .stat))
@@ -284,9 +284,8 @@ module _ (z : Size) (a : Sizes z) (c k : ℕ) (n : Numbered (z .tasks) k) (b : B
 
   go-forward : lowest (ownRow z y c (Forward m k)) ≡ Go
   go-forward =
-      let meant : no6 z y k .applies ≡ false = rw (within-outside (z .tasks) k (n .0) (n .1), there-y) refl in
       go-held z y c m (no6 z y k ∷ no7 y m ∷ []) somebody mn held-y
-      (go-from (no6 z y k) (no7 y m ∷ []) meant (go-from (no7 y m) [] (ne-eqb (number prio) 127 low) refl))
+      (go-there z y k (no7 y m ∷ []) n there-y (go-from (no7 y m) [] (ne-eqb (number prio) 127 low) refl))
 
   makes-forward : Makes z y (Forward m k ∷ []) b
   makes-forward =

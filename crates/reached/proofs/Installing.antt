@@ -24,13 +24,12 @@ use Rattle.board.specs.Status.{WAIT, IWAT, BIT5, INTQ, MHBS, TCBB, has, stored,
 use Rattle.board.specs.Records.{noTask, taskWithStat}
 use Rattle.board.specs.Board.{Board, task, place, withTask, withRunning}
 use Rattle.board.proofs.Bits.{withoutBit-other, withoutBit-has, withoutBit-small}
-use Rattle.board.proofs.Pieces.{within-outside}
 use Rattle.paper.specs.declared.call.Call.{Call}
 use Rattle.paper.specs.declared.call.Call.the-variants.{Install, WaitForInterrupt}
 use Rattle.paper.specs.Rules.{isThere, present, nextTask, taskNumber, order, ready}
 use Rattle.paper.specs.Changes.{clears, withOrder}
 use Rattle.paper.specs.Effects.{install, cancelTask}
-use Rattle.paper.specs.Refusals.{no7Install, no8, no9, ownRow, Go, lowest}
+use Rattle.paper.specs.Refusals.{no7Install, no9, ownRow, Go, lowest}
 use Rattle.linked.specs.Sound.{Proper}
 use Rattle.linked.proofs.Running.{placed-numbered}
 use Rattle.linked.proofs.Chosen.{none-runs}
@@ -42,11 +41,12 @@ use Rattle.kept.proofs.Cancelling.{settled-cancel}
 use Rattle.kept.proofs.Installing.{install-settled}
 use Rattle.kept.proofs.Dispatching.{settled-running}
 use Rattle.past.specs.Past.{installed}
-use Rattle.reached.proofs.Making.{Passing, Makes, makes-then, makes-call, go-from}
+use Rattle.reached.proofs.Making.{Passing, Makes, makes-then, makes-call}
 use Rattle.reached.proofs.Sweeping.{Earlier}
-use Rattle.reached.proofs.Stages.{Stage, Parked, Unused, parked-still, task-word}
-use Rattle.reached.proofs.Alike.{sheet, block, same-board}
-use Rattle.reached.proofs.Crew.{order-sheet, order-mptr, order-message, order-place, order-running, order-length}
+use Rattle.reached.proofs.Stages.{Stage, Parked, Unused, parked-still}
+use Rattle.kept.proofs.SameBoard.{sheet, block, same-board}
+use Rattle.kept.proofs.Crew.{order-sheet, order-mptr, order-message, order-place, order-running, order-length}
+use Rattle.kept.proofs.Going.{go-install, task-word}
 use Rattle.reached.proofs.Parking.{awoken, woken-only, settled-awoken, passing-awoken, makes-wait}
 
 module _ (z : Size) (a : Sizes z) (q : List ℕ) (k : ℕ) (b : Board) (u : Unused z (q ++ k ∷ []) b) where
@@ -175,11 +175,9 @@ module _ (z : Size) (a : Sizes z) (q : List ℕ) (k : ℕ) (b : Board) (u : Unus
   goes-through =
       let prio : no7Install (t .prio) .applies ≡ false =
       rw (proper .odd, le-leb 0x03 (t .prio) (proper .low), le-leb (t .prio) 0xFD (proper .high)) refl in
-      let room : no8 z y k .applies ≡ false = rw (within-outside (z .tasks) k (n .0) (n .1), ap isThere gone) refl in
       let status : no9 (stat .0) .applies ≡ false =
       rw (flags .0, flags .1, flags .2, flags .3, flags .4, flags .5) refl in
-      go-from (no7Install (t .prio)) (no8 z y k ∷ no9 (stat .0) ∷ []) prio
-      (go-from (no8 z y k) (no9 (stat .0) ∷ []) room (go-from (no9 (stat .0)) [] status refl))
+      go-install z y k (stat .0) (t .prio) prio n (ap isThere gone) status
 
   abbrev goes : ℕ → Bool
   goes x = goesBefore true (number (t .prio)) (taskNumber y x)

@@ -25,12 +25,12 @@ use Rattle.board.specs.Places.{isHeldBy}
 use Rattle.board.specs.Records.{noTask, noMessage, taskWithStat}
 use Rattle.board.specs.Board.{Board, task, message, place, withTask, withRunning}
 use Rattle.board.proofs.Bits.{withBit-has, withBit-other}
-use Rattle.board.proofs.Pieces.{within-outside, neither}
+use Rattle.board.proofs.Pieces.{neither}
 use Rattle.paper.specs.declared.call.Call.the-variants.{Install, PostInterrupt, CancelTask}
 use Rattle.paper.specs.Rules.{isThere, present, taskNumber, order, ready}
 use Rattle.paper.specs.Changes.{sets, withOrder}
 use Rattle.paper.specs.Effects.{install, cancelTask}
-use Rattle.paper.specs.Refusals.{no3, no6, no7Install, no8, no9, no10, holdsOne, ownRow, Go, lowest}
+use Rattle.paper.specs.Refusals.{no6, no10, holdsOne, ownRow, Go, lowest}
 use Rattle.paper.proofs.Which.{nth-numbered}
 use Rattle.linked.proofs.Tests.{says-isHeldBy}
 use Rattle.linked.proofs.Running.{which-first}
@@ -43,13 +43,15 @@ use Rattle.kept.proofs.Installing.{install-settled}
 use Rattle.kept.proofs.Cancelling.{cancel-settled}
 use Rattle.kept.proofs.Dispatching.{settled-running, runs-byte}
 use Rattle.past.specs.Past.{back, here, unnamed, guestStat, guestPrio, left}
-use Rattle.reached.proofs.Making.{Passing, Makes, makes-then, makes-call, go-from}
+use Rattle.reached.proofs.Making.{Passing, Makes, makes-then, makes-call}
 use Rattle.reached.proofs.Sweeping.{Turned, turned-here}
-use Rattle.reached.proofs.Stages.{Stage, Bare, Parked, parked-still, task-word}
-use Rattle.reached.proofs.Alike.{sheet, block, same-board}
-use Rattle.reached.proofs.Crew.{order-sheet, order-mptr, order-message, order-place, order-running, order-length}
+use Rattle.reached.proofs.Stages.{Stage, Bare, Parked, parked-still}
+use Rattle.kept.proofs.SameBoard.{sheet, block, same-board}
+use Rattle.kept.proofs.Crew.{order-sheet, order-mptr, order-message, order-place, order-running, order-length}
+use Rattle.kept.proofs.Going.{go-runs, go-there, go-install, go-from, task-word}
+use Rattle.kept.proofs.Waiting.{none-due}
 use Rattle.reached.proofs.Parking.{runs-same}
-use Rattle.reached.proofs.Waking.{none-due, still-w, makes-start}
+use Rattle.reached.proofs.Waking.{still-w, makes-start}
 
 -- the record of a task that was there for a while
 abbrev guest : Task
@@ -86,17 +88,12 @@ module _ (z : Size) (a : Sizes z) (k : ℕ) (b : Board) (n : Numbered (z .tasks)
   abbrev d : Board
   d = install z b k guestStat guestPrio 0 0
 
-  go-install : lowest (ownRow z b 0 (Install k guestStat guestPrio 0 0)) ≡ Go
-  go-install =
-      let room : no8 z b k .applies ≡ false = rw (within-outside (z .tasks) k (n .0) (n .1), absent) refl in
-      go-from (no7Install guestPrio) (no8 z b k ∷ no9 guestStat ∷ []) refl
-      (go-from (no8 z b k) (no9 guestStat ∷ []) room (go-from (no9 guestStat) [] refl refl))
-
   fitting : Fitting (Install k guestStat guestPrio 0 0)
   fitting = ((task-word z a k n, (lit< tt, (lit< tt, tt))), (lit< tt, (lit< tt, tt)))
 
   sd : Settled z d (insert goes k q) f
-  sd = install-settled z b q f a s k guestStat guestPrio 0 0 0 fitting go-install
+  sd = install-settled z b q f a s k guestStat guestPrio 0 0 0 fitting
+      (go-install z b k guestStat guestPrio refl n absent refl)
 
   sheet-k : sheet (task d k) ≡ sheet guest
   sheet-k = order-sheet (withTask b k guest) l k ∙ ap sheet (task-put b k guest (rw (s .fits .tasks) n))
@@ -178,9 +175,8 @@ module _ (z : Size) (a : Sizes z) (k : ℕ) (b : Board) (n : Numbered (z .tasks)
   go-cancel =
       let busy : no10 e k .applies ≡ false =
       rw (eq-eqb (task d k .mptr) 0 (mptr-d k n), holds-none, ap (λ (t : Task). has (t .stat) IWAT) sheet-k) refl in
-      let meant : no6 z e k .applies ≡ false = rw (within-outside (z .tasks) k (n .0) (n .1), ap isThere sheet-k) refl in
-      go-from (no3 k) (no6 z e k ∷ no10 e k ∷ []) (ne-eqb k 0 (λ (h : k ≡ 0). omega (arith, n .0)))
-      (go-from (no6 z e k) (no10 e k ∷ []) meant (go-from (no10 e k) [] busy refl))
+      go-runs k (no6 z e k ∷ no10 e k ∷ []) (λ (h : k ≡ 0). omega (arith, n .0))
+      (go-there z e k (no10 e k ∷ []) n (ap isThere sheet-k) (go-from (no10 e k) [] busy refl))
 
   out : Out k q
   out = not-in-out k q (λ i. true≢false (sym (s .regular .linked .tasks .exact k .0 i) ∙ absent))

@@ -1,10 +1,6 @@
 pub mod Making
 pub mod Sweeping
-pub mod Statuses
 pub mod Stages
-pub mod Alike
-pub mod Mail
-pub mod Crew
 pub mod Parking
 pub mod Posting
 pub mod Waking

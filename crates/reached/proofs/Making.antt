@@ -15,7 +15,7 @@ use Rattle.board.specs.Board.{Board, total, bytesOf, task, withRunning}
 use Rattle.paper.specs.declared.call.Call.{Call}
 use Rattle.paper.specs.declared.answer.Answer.{Answer}
 use Rattle.paper.specs.Rules.{ready, mayRun, firstReady, runsNext}
-use Rattle.paper.specs.Refusals.{Test, no1, no2, ownRow, row, Verdict, Go, lowest}
+use Rattle.paper.specs.Refusals.{no1, no2, ownRow, row, Verdict, Go, lowest}
 use Rattle.paper.specs.Outcomes.{Outcome, accepted, undispatched, judge, body, deliver, dispatchTo, dispatch, called, effect}
 use Rattle.paper.specs.History.{run}
 use Rattle.linked.specs.Sound.{RunsRightly}
@@ -25,6 +25,7 @@ use Rattle.kept.specs.Claims.{Sizes}
 use Rattle.kept.proofs.Fitting.{board-bytes, bytes-fit}
 use Rattle.kept.proofs.Dispatching.{settled-running, next-rightly, runs-byte}
 use Rattle.kept.proofs.Theorems.{settled-passes}
+use Rattle.kept.proofs.Going.{go-from}
 use Rattle.reached.specs.Claims.{IsAccepted}
 
 -- ---- a board that passes, with its lists and the task c that runs
@@ -69,10 +70,6 @@ makes-then z x y b calls more (f, e, o) (g, d, p) = (
       (all-append IsAccepted (run z (bytesOf x) calls .answers) _ o
       (subst (λ (l : List ℕ). All IsAccepted (run z l more .answers)) (sym e) p)),
 )
-
--- ---- a row that refuses nothing
-pub go-from : (t : Test) (tests : List Test) → t .applies ≡ false → lowest tests ≡ Go → lowest (t ∷ tests) ≡ Go
-go-from t tests e g = rw (e, lowest) g
 
 -- ---- one call more: on y, where c runs, it makes x, where d runs; either the same task or the only one that is ready on x
 module _ (z : Size) (a : Sizes z) (y : Board) (c : ℕ) (p : Passing z y c) (call : Call) (x : Board) (d : ℕ)

@@ -26,8 +26,8 @@ use Rattle.kept.specs.Claims.{Sizes}
 use Rattle.kept.proofs.Flagging.{settled-post}
 use Rattle.kept.proofs.Dispatching.{settled-running, runs-byte}
 use Rattle.reached.proofs.Making.{Passing, Makes, makes-call}
-use Rattle.reached.proofs.Statuses.{is-ready, ready-one, restat-stat, restat-undone, flag-there}
-use Rattle.reached.proofs.Stages.{go-post, go-wait, task-word}
+use Rattle.kept.proofs.Statuses.{is-ready, ready-one, restat-stat, restat-undone, flag-there}
+use Rattle.kept.proofs.Going.{go-runs, go-there, task-word}
 
 -- byte 1 as it is
 pub runs-same : (b : Board) (c : ℕ) → b .running ≡ c → b ≡ withRunning b c
@@ -67,7 +67,7 @@ module _ (z : Size) (a : Sizes z) (b : Board) (p : Passing z b 0) (still : (j : 
   stat-d : task d k .stat ≡ withoutBit s IWAT
   stat-d = restat-stat b k (withoutBit s IWAT) numbered
 
-  pub woken-ready : ready (clears b k IWAT) k ≡ true
+  woken-ready : ready (clears b k IWAT) k ≡ true
   woken-ready =
       ap isReady stat-d
       ∙ is-ready (withoutBit s IWAT) (withoutBit-other s IWAT TCBB refl ∙ there)
@@ -78,7 +78,7 @@ module _ (z : Size) (a : Sizes z) (b : Board) (p : Passing z b 0) (still : (j : 
   pub woken-only : (j : ℕ) → ready (clears b k IWAT) j ≡ true → j ≡ k
   woken-only = ready-one b k _ still
 
-  pub woken-rightly : RunsRightly (clears b k IWAT) k
+  woken-rightly : RunsRightly (clears b k IWAT) k
   woken-rightly = only-runs z d (settled-d .fits .tasks) k woken-ready woken-only
 
   pub settled-awoken : Settled z (awoken b k) (p .order) (p .queues)
@@ -105,11 +105,11 @@ module _ (z : Size) (a : Sizes z) (b : Board) (p : Passing z b 0) (still : (j : 
   -- a wait for interrupt parks it again
   pub makes-wait : Makes z (awoken b k) (WaitForInterrupt ∷ []) b
   makes-wait =
-      makes-call z a y k passing-awoken WaitForInterrupt b 0 p (tt, tt) (go-wait z y k (λ w. absurd (omega (arith, n .0, w))))
+      makes-call z a y k passing-awoken WaitForInterrupt b 0 p (tt, tt) (go-runs k [] (λ w. absurd (omega (arith, n .0, w))) refl)
       parked-again (inr (λ j r. absurd (true≢false (sym r ∙ still j))))
 
   -- and a post wakes it
   pub makes-wake : Makes z b (PostInterrupt k ∷ []) (awoken b k)
   makes-wake =
-      makes-call z a b 0 p (PostInterrupt k) y k passing-awoken ((task-word z a k n, tt), tt) (go-post z b 0 k n there)
+      makes-call z a b 0 p (PostInterrupt k) y k passing-awoken ((task-word z a k n, tt), tt) (go-there z b k [] n there refl)
       (post-is ∙ runs-same d 0 (p .runs)) (inr woken-only)

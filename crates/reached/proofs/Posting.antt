@@ -25,8 +25,9 @@ use Rattle.kept.proofs.Flagging.{flags-alike, apart-INTQ, settled-clears}
 use Rattle.past.specs.Past.{back, here, posted}
 use Rattle.reached.proofs.Making.{Passing, Makes, makes-call}
 use Rattle.reached.proofs.Sweeping.{Turned, turned-here}
-use Rattle.reached.proofs.Statuses.{restat-undone, flag-there}
-use Rattle.reached.proofs.Stages.{Stage, Quiet, turn-stat, go-post, task-word}
+use Rattle.kept.proofs.Statuses.{restat-undone, flag-there}
+use Rattle.kept.proofs.Going.{go-there, task-word}
+use Rattle.reached.proofs.Stages.{Stage, Quiet, turn-stat}
 use Rattle.reached.proofs.Parking.{runs-same}
 
 module _ (z : Size) (a : Sizes z) (c k : ℕ) (b : Board) (n : Numbered (z .tasks) k) (p : Passing z b c)
@@ -76,7 +77,7 @@ module _ (z : Size) (a : Sizes z) (c k : ℕ) (b : Board) (n : Numbered (z .task
   makes-post : Makes z (clears b k INTQ) (PostInterrupt k ∷ []) b
   makes-post =
       makes-call z a y c passing-y (PostInterrupt k) b c p ((task-word z a k n, tt), tt)
-      (go-post z y c k n (task-alike isThere b k k _ (withoutBit-other s INTQ TCBB refl) ∙ there))
+      (go-there z y k [] n (task-alike isThere b k k _ (withoutBit-other s INTQ TCBB refl) ∙ there) refl)
       (posted-again ∙ runs-same b c (p .runs)) (inl refl)
 
   -- as a turn of a sweep

@@ -30,8 +30,9 @@ use Rattle.kept.proofs.Dispatching.{settled-running, runs-byte}
 use Rattle.past.specs.Past.{back, here, waited}
 use Rattle.reached.proofs.Making.{Passing, Makes, makes-then, makes-call}
 use Rattle.reached.proofs.Sweeping.{Turned, turned-here}
-use Rattle.reached.proofs.Statuses.{is-ready, ready-one, restat-stat, restat-undone, flag-there}
-use Rattle.reached.proofs.Stages.{Stage, Bare, Still, Parked, go-receive-wait}
+use Rattle.kept.proofs.Statuses.{is-ready, ready-one, restat-stat, restat-undone, flag-there}
+use Rattle.kept.proofs.Going.{go-runs}
+use Rattle.reached.proofs.Stages.{Stage, Bare, Still, Parked}
 use Rattle.reached.proofs.Parking.{runs-same}
 use Rattle.reached.proofs.Waking.{still-w, makes-start, slept-parked}
 
@@ -109,7 +110,7 @@ module _ (z : Size) (a : Sizes z) (k : ℕ) (b : Board) (n : Numbered (z .tasks)
   makes-receive : Makes z y (ReceiveAndWait ∷ []) b
   makes-receive =
       makes-call z a y k (bare-y .passing) ReceiveAndWait b 0 p (tt, tt)
-      (go-receive-wait z y k (λ w. absurd (omega (arith, n .0, w)))) waits-again
+      (go-runs k [] (λ w. absurd (omega (arith, n .0, w))) refl) waits-again
       (inr (λ j r. absurd (true≢false (sym r ∙ still j))))
 
   -- ---- and before that it was parked

@@ -30,10 +30,11 @@ use Rattle.kept.specs.Claims.{Sizes}
 use Rattle.kept.proofs.Reading.{place-put, place-other}
 use Rattle.kept.proofs.Holding.{free-held, settled-place, held-good, held-fits}
 use Rattle.kept.proofs.Waiting.{task-numbered}
+use Rattle.kept.proofs.Going.{go-held, message-word}
 use Rattle.past.specs.Past.{back, here, holder, released}
 use Rattle.reached.proofs.Making.{Passing, Makes, makes-then, makes-call}
 use Rattle.reached.proofs.Sweeping.{Turned, turned-here}
-use Rattle.reached.proofs.Stages.{Hosted, parked-still, used-held, go-held, message-word}
+use Rattle.reached.proofs.Stages.{Hosted, parked-still, used-held}
 use Rattle.reached.proofs.Parking.{awoken, passing-awoken, makes-wait, makes-wake}
 
 module _ (z : Size) (a : Sizes z) (m : ℕ) (b : Board) (n : Numbered (z .messages) m) (v : Hosted z b) (e : place b m ≡ Free)

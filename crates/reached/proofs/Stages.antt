@@ -3,11 +3,11 @@
 use mathlib.Core.Path.{_≡_, refl, sym, ap, _∙_, subst}
 use mathlib.Core.Logic.{_≢_}
 use mathlib.Core.Bool.{true, false, not, true≢false}
-use mathlib.Core.List.{List, [], _∷_}
+use mathlib.Core.List.{List}
 use Prim.Native.Nat.{ℕ, suc}
 use native.Mathlib.Omega.{arith}
 use lib.Dec.{eqb}
-use borrow.Author.Tests.{ne-eqb, eq-eqb}
+use borrow.Author.Tests.{ne-eqb}
 use Rattle.links.proofs.Bools.{refuted}
 use Rattle.board.specs.declared.numbers.Size.{Size}
 use Rattle.board.specs.declared.status.Status.{Status}
@@ -16,26 +16,21 @@ use Rattle.board.specs.declared.records.Message.{Message}
 use Rattle.board.specs.declared.places.Place.{Place}
 use Rattle.board.specs.declared.places.Place.the-variants.{Free, HeldBy, QueuedAt, Nowhere}
 use Rattle.board.specs.Numbers.{taskNo, Numbered}
-use Rattle.board.specs.Places.{isHeldBy}
 use Rattle.board.specs.Status.{IWAT, INTQ, has, isReady}
-use Rattle.board.specs.Records.{Word, noTask, noMessage, taskWithStat}
+use Rattle.board.specs.Records.{noTask, noMessage, taskWithStat}
 use Rattle.board.specs.Board.{Board, task, message, place}
-use Rattle.board.proofs.Pieces.{within-outside}
 use Rattle.paper.specs.declared.call.Call.{Call}
-use Rattle.paper.specs.declared.call.Call.the-variants.{PostInterrupt, WaitForInterrupt, ReceiveAndWait}
 use Rattle.paper.specs.Rules.{isThere, present, ready}
-use Rattle.paper.specs.Refusals.{Test, no3, no4, no5, no6, ownRow, Go, lowest}
 use Rattle.paper.proofs.Which.{nth-numbered}
 use Rattle.linked.specs.Sound.{PlaceGood}
 use Rattle.linked.proofs.Running.{ready-says, placed-numbered}
 use Rattle.kept.specs.Settled.{Settled}
-use Rattle.kept.specs.Claims.{Sizes}
 use Rattle.kept.proofs.Reading.{nth-cases, task-put}
 use Rattle.kept.proofs.Waiting.{task-numbered, queued-starts}
 use Rattle.past.specs.Past.{back}
-use Rattle.reached.proofs.Making.{Passing, Makes, go-from}
+use Rattle.reached.proofs.Making.{Passing, Makes}
 use Rattle.reached.proofs.Sweeping.{Turned}
-use Rattle.reached.proofs.Statuses.{restat}
+use Rattle.kept.proofs.Statuses.{restat}
 
 -- ---- a stage: c runs, and Q holds of every task
 pub record Stage (z : Size) (Q : Task → Type 0) (c : ℕ) (b : Board) : Type 0 where
@@ -74,33 +69,6 @@ module _ (z : Size) (c : ℕ) (Q P : Task → Type 0) (b : Board) (v : Stage z Q
     simple = subst P (sym (task-put b k (taskWithStat (task b k) s) (rw (v .passing .settled .fits .tasks) n))) r;
     keeps = λ j h. nth-cases P noTask (b .tasks) k j (taskWithStat (task b k) s) (λ e. r);
   }
-
--- ---- rows that refuse nothing
-pub go-post : (z : Size) (y : Board) (c k : ℕ) → Numbered (z .tasks) k → present y k ≡ true
-    → lowest (ownRow z y c (PostInterrupt k)) ≡ Go
-go-post z y c k n p =
-    let o = within-outside (z .tasks) k (n .0) (n .1) in
-    go-from (no6 z y k) [] (rw (o, p)) refl
-
-pub go-wait : (z : Size) (y : Board) (c : ℕ) → c ≢ 0 → lowest (ownRow z y c WaitForInterrupt) ≡ Go
-go-wait z y c h = go-from (no3 c) [] (ne-eqb c 0 h) refl
-
-pub go-receive-wait : (z : Size) (y : Board) (c : ℕ) → c ≢ 0 → lowest (ownRow z y c ReceiveAndWait) ≡ Go
-go-receive-wait z y c h = go-from (no3 c) [] (ne-eqb c 0 h) refl
-
-pub task-word : (z : Size) → Sizes z → (k : ℕ) → Numbered (z .tasks) k → Word k
-task-word z a k n = omega (arith, a .tasks, n .1)
-
--- the caller holds the message
-pub go-held : (z : Size) (y : Board) (c m : ℕ) (tests : List Test) → c ≢ 0 → Numbered (z .messages) m
-    → place y m ≡ HeldBy (taskNo c) → lowest tests ≡ Go → lowest (no3 c ∷ no4 z m ∷ no5 y c m ∷ tests) ≡ Go
-go-held z y c m tests h n e g =
-    go-from (no3 c) (no4 z m ∷ no5 y c m ∷ tests) (ne-eqb c 0 h)
-    (go-from (no4 z m) (no5 y c m ∷ tests) (within-outside (z .messages) m (n .0) (n .1))
-    (go-from (no5 y c m) tests (ap (λ (p : Place). not (isHeldBy c p)) e ∙ ap not (eq-eqb c c refl)) g))
-
-pub message-word : (z : Size) → Sizes z → (m : ℕ) → Numbered (z .messages) m → Word m
-message-word z a m n = omega (arith, a .links, n .1)
 
 -- ---- where all are parked nobody is ready
 pub parked-still : (z : Size) (c : ℕ) (b : Board) → Stage z Parked c b → (j : ℕ) → ready b j ≡ false

@@ -27,7 +27,7 @@ use Rattle.kept.proofs.Reading.{nth-cases}
 use Rattle.past.specs.Past.{back, here, stopped}
 use Rattle.reached.proofs.Making.{Passing}
 use Rattle.reached.proofs.Sweeping.{Earlier, is-here}
-use Rattle.reached.proofs.Statuses.{is-ready}
+use Rattle.kept.proofs.Statuses.{is-ready}
 use Rattle.reached.proofs.Stages.{Stage, Quiet, Led}
 use Rattle.reached.proofs.Parking.{passing-awoken, makes-wait}
 

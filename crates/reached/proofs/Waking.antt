@@ -4,7 +4,7 @@
 use mathlib.Core.Path.{_≡_, refl, sym, ap, _∙_, subst}
 use mathlib.Core.Logic.{_≢_, inl, inr}
 use mathlib.Core.Bool.{Bool, true, false, cond, not, _&&_, true≢false}
-use mathlib.Core.List.{List, [], _∷_}
+use mathlib.Core.List.{[], _∷_}
 use Prim.Native.Nat.{ℕ}
 use native.Mathlib.Omega.{arith}
 use lib.Dec.{eqb}
@@ -21,31 +21,21 @@ use Rattle.board.proofs.Bits.{withBit-other, clear-set, withBit-has}
 use Rattle.paper.specs.declared.call.Call.the-variants.{PostInterrupt}
 use Rattle.paper.specs.Rules.{isThere, present, ready}
 use Rattle.paper.specs.Changes.{sets, clears}
-use Rattle.paper.proofs.Which.{nth-numbered}
 use Rattle.linked.proofs.Running.{ready-says}
 use Rattle.linked.proofs.Chosen.{fewer-runs, none-runs, ready-numbered}
 use Rattle.kept.specs.Settled.{Settled}
 use Rattle.kept.specs.Claims.{Sizes}
 use Rattle.kept.proofs.Reading.{nth-cases, task-other, task-alike}
 use Rattle.kept.proofs.Flagging.{flags-parked, apart-IWAT, settled-sets}
+use Rattle.kept.proofs.Waiting.{none-due}
 use Rattle.kept.proofs.Dispatching.{settled-running}
 use Rattle.past.specs.Past.{back, here, readied, started}
 use Rattle.reached.proofs.Making.{Passing, Makes, makes-call}
 use Rattle.reached.proofs.Sweeping.{Earlier, is-here, Turned, turned-here}
-use Rattle.reached.proofs.Statuses.{unready, restat-stat, restat-undone}
-use Rattle.reached.proofs.Stages.{Stage, Bare, Still, go-post, task-word}
+use Rattle.kept.proofs.Statuses.{unready, restat-stat, restat-undone}
+use Rattle.kept.proofs.Going.{go-there, task-word}
+use Rattle.reached.proofs.Stages.{Stage, Bare, Still}
 use Rattle.reached.proofs.Parking.{runs-same, makes-wake}
-
--- with no message queued nobody is due one
-pub none-due : (z : Size) (b : Board) (order : List ℕ) (queues : ℕ → List ℕ) → Settled z b order queues
-    → ((k : ℕ) → Numbered (z .tasks) k → task b k .mptr ≡ 0) → (c : ℕ) → has (task b c .stat) MHBS ≡ false
-none-due z b order queues s h c = refuted (has (task b c .stat) MHBS) (λ e. step e (numbered e))
-  where
-    numbered : has (task b c .stat) MHBS ≡ true → Numbered (z .tasks) c
-    numbered e = rw (s .fits .tasks) at (nth-numbered noTask (λ (t : Task). has (t .stat) MHBS) (b .tasks) refl c e)
-
-    step : has (task b c .stat) MHBS ≡ true → Numbered (z .tasks) c → ⊥
-    step e n = s .flags c n .due e (h c n)
 
 -- ---- k is ready and no message is queued: it is parked instead
 module _ (z : Size) (a : Sizes z) (c k : ℕ) (b : Board) (n : Numbered (z .tasks) k) (v : Stage z Bare c b)
@@ -71,7 +61,7 @@ module _ (z : Size) (a : Sizes z) (c k : ℕ) (b : Board) (n : Numbered (z .task
   idle-b : (j : ℕ) → has (task b j .stat) MHBS ≡ false
   idle-b = none-due z b (p .order) (p .queues) st (λ j h. v .all j h .1)
 
-  pub settled-slept : Settled z (sets b k IWAT) (p .order) (p .queues)
+  settled-slept : Settled z (sets b k IWAT) (p .order) (p .queues)
   settled-slept =
       settled-sets z b (p .order) (p .queues) k IWAT (says .0) apart-IWAT st
       (flags-parked (withBit s IWAT) _ (withBit-other s IWAT WAIT refl ∙ says .1) (withBit-other s IWAT INTQ refl ∙ v .all k n .0)
@@ -80,7 +70,7 @@ module _ (z : Size) (a : Sizes z) (c k : ℕ) (b : Board) (n : Numbered (z .task
   bare-t : Bare t
   bare-t = (withBit-other s IWAT INTQ refl ∙ v .all k n .0, v .all k n .1)
 
-  pub slept-bare : (j : ℕ) → Numbered (z .tasks) j → Bare (task (sets b k IWAT) j)
+  slept-bare : (j : ℕ) → Numbered (z .tasks) j → Bare (task (sets b k IWAT) j)
   slept-bare j g = nth-cases Bare noTask (b .tasks) k j t (λ d. bare-t) (v .all j g)
 
   idle-y : (j : ℕ) → has (task y j .stat) MHBS ≡ false
@@ -89,11 +79,11 @@ module _ (z : Size) (a : Sizes z) (c k : ℕ) (b : Board) (n : Numbered (z .task
   asleep : isReady (withBit s IWAT) ≡ false
   asleep = unready (withBit s IWAT) (inr (withBit-has IWAT refl s (st .fits .task k .stat)))
 
-  pub slept-unready : ready (sets b k IWAT) k ≡ false
+  slept-unready : ready (sets b k IWAT) k ≡ false
   slept-unready = ap isReady (restat-stat b k (withBit s IWAT) (rw (st .fits .tasks) n)) ∙ asleep
 
   -- whoever is ready was
-  pub slept-fewer : (j : ℕ) → ready (sets b k IWAT) j ≡ true → ready b j ≡ true
+  slept-fewer : (j : ℕ) → ready (sets b k IWAT) j ≡ true → ready b j ≡ true
   slept-fewer j = nth-cases (λ (x : Task). isReady (x .stat) ≡ true → ready b j ≡ true) noTask (b .tasks) k j t
       (λ d r. absurd (true≢false (sym r ∙ asleep))) (λ r. r)
 
@@ -123,7 +113,7 @@ module _ (z : Size) (a : Sizes z) (c k : ℕ) (b : Board) (n : Numbered (z .task
     makes-post : Makes z y (PostInterrupt k ∷ []) b
     makes-post =
         let there : present y k ≡ true = task-alike isThere b k k t (withBit-other s IWAT TCBB refl) ∙ says .0 in
-        makes-call z a y c passing-y (PostInterrupt k) b c p ((task-word z a k n, tt), tt) (go-post z y c k n there)
+        makes-call z a y c passing-y (PostInterrupt k) b c p ((task-word z a k n, tt), tt) (go-there z y k [] n there refl)
         (rw slept-parked (woken-again ∙ runs-same b c (p .runs))) (inl refl)
 
   -- ---- it runs, and no other is ready

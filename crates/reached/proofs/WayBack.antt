@@ -23,7 +23,7 @@ use Rattle.past.specs.Past.{posted, stopped, queued, readied, started, waited, 
 use Rattle.reached.proofs.Making.{Passing}
 use Rattle.reached.proofs.Sweeping.{Earlier, is-here, is-further, swept, unlisted}
 use Rattle.reached.proofs.Stages.{Stage, Quiet, Bare, Still, Parked, Led, Hosted, Filled, Unused, receiver-numbered}
-use Rattle.reached.proofs.Alike.{sheet, block, same-board}
+use Rattle.kept.proofs.SameBoard.{sheet, block, same-board}
 use Rattle.reached.proofs.Posting.{turn-posted}
 use Rattle.reached.proofs.Stopping.{SomeLed, back-stopped}
 use Rattle.reached.proofs.Forwarding.{turn-queued}

@@ -19,10 +19,10 @@ use Rattle.paper.specs.Rules.{queue, emptyQueue}
 use Rattle.paper.specs.Changes.{sets, clears, linkMessage, withQueue, hold}
 use Rattle.paper.specs.Effects.{queueWith, woken, placeAt, emptied, cancelMessage}
 use Rattle.links.proofs.Bools.{cond-holds}
 use Rattle.kept.proofs.Reading.{relink-keeps, message-put, place-put}
 use Rattle.kept.proofs.Relinked.{requeued-is, requeued-stat, requeued-alike}
-use Rattle.reached.proofs.Statuses.{restat-stat}
-use Rattle.reached.proofs.Alike.{block}
+use Rattle.kept.proofs.Statuses.{restat-stat}
+use Rattle.kept.proofs.SameBoard.{block}
 
 -- ---- a bit cleared and another set
 module _ (b : Board) (r x y : ℕ) (n : Numbered (length (b .tasks)) r) where
@@ -40,7 +40,7 @@ pub data Woke (b : Board) (r : ℕ) : Type 0 where
   wakes : has (task b r .stat) WAIT ≡ true → task (woken b r) r .stat ≡ withBit (withoutBit (task b r .stat) WAIT) MHBS → Woke b r
   stays : has (task b r .stat) WAIT ≡ false → task (woken b r) r .stat ≡ task b r .stat → Woke b r
 
-pub woke : (b : Board) (r : ℕ) → Numbered (length (b .tasks)) r → Woke b r
+woke : (b : Board) (r : ℕ) → Numbered (length (b .tasks)) r → Woke b r
 woke b r n = step (has (task b r .stat) WAIT) refl
   where
     step : (t : Bool) → has (task b r .stat) WAIT ≡ t → Woke b r
@@ -50,15 +50,15 @@ woke b r n = step (has (task b r .stat) WAIT) refl
 pub data Waits (b : Board) (r : ℕ) : Type 0 where
   again : has (task b r .stat) MHBS ≡ true → emptyQueue b r ≡ true
       → task (emptied b r) r .stat ≡ withBit (withoutBit (task b r .stat) MHBS) WAIT → Waits b r
-  not : task (emptied b r) r .stat ≡ task b r .stat → Waits b r
+  unchanged : task (emptied b r) r .stat ≡ task b r .stat → Waits b r
 
 pub waits-again : (b : Board) (r : ℕ) → Numbered (length (b .tasks)) r → Waits b r
 waits-again b r n = step (has (task b r .stat) MHBS) refl (emptyQueue b r) refl
   where
     step : (t : Bool) → has (task b r .stat) MHBS ≡ t → (u : Bool) → emptyQueue b r ≡ u → Waits b r
     step true e true d = again e d (rw (e, d) (changed-stat b r MHBS WAIT n))
-    step true e false d = not (rw (e, d) refl)
-    step false e u d = not (rw e refl)
+    step true e false d = unchanged (rw (e, d) refl)
+    step false e u d = unchanged (rw e refl)
 
 -- neither changes messages or places
 emptied-message : (b : Board) (r m : ℕ) → message (emptied b r) m ≡ message b m

@@ -1,4 +1,4 @@
--- One status written: read back, written again, written back. Who waits isn't ready.
+-- One status written: read back, and written back. Who waits isn't ready.
 -- Assumes nothing.
 use mathlib.Core.Path.{_≡_, refl, sym, ap, ap₂, _∙_}
 use mathlib.Core.Logic.{_≢_, _⊎_, inl, inr}
@@ -25,14 +25,7 @@ module _ (b : Board) (k : ℕ) (s : Status) (n : Numbered (length (b .tasks)) k)
   pub restat-stat : task (restat b k s) k .stat ≡ s
   restat-stat = ap (λ (t : Task). t .stat) (task-put b k (taskWithStat (task b k) s) n)
 
-  -- written again, only that counts
-  pub restat-again : (t : Status) → restat (restat b k s) k t ≡ restat b k t
-  restat-again t =
-      ap (λ (x : Task). withTask (restat b k s) k (taskWithStat x t)) (task-put b k (taskWithStat (task b k) s) n)
-      ∙ ap (withTasks b)
-      (put-put (b .tasks) k (taskWithStat (task b k) s) (taskWithStat (task b k) t))
-
-  -- and written back all is as it was
+  -- written back all is as it was
   restat-back : (t : Status) → t ≡ task b k .stat → restat (restat b k s) k t ≡ b
   restat-back t e =
       let r : taskWithStat (task (restat b k s) k) t ≡ task b k =

@@ -10,10 +10,10 @@ use Rattle.board.specs.Records.{taskWithLink}
 use Rattle.board.specs.Board.{Board, task, message, place}
 use Rattle.board.proofs.Numbered.{length-put}
 use Rattle.paper.specs.Changes.{linkTask, withOrder}
 use Rattle.kept.specs.Touched.{Frame}
 use Rattle.kept.proofs.Reading.{relink-keeps}
 use Rattle.kept.proofs.Framing.{frame-order}
-use Rattle.reached.proofs.Alike.{sheet}
+use Rattle.kept.proofs.SameBoard.{sheet}
 
 -- ---- the tasks relinked
 module _ (b : Board) (q : List ℕ) where
