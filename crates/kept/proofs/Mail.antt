@@ -99,12 +99,14 @@ module _ (z : Size) (b : Board) (c m r : ℕ) where
   abbrev h : Board
   h = hold (withQueue b r q) c m
 
+  -- it is the same but for its LINK
   pub back-message : Numbered (length (b .messages)) m → block (message (cancelMessage z b c m r) m) ≡ block (message b m)
   back-message n =
       ap block (emptied-message h r m
       ∙ message-put (withQueue b r q) m (withLink (message (withQueue b r q) m) 0) (rw (queue-length b r q) n))
       ∙ queue-block b r q m
 
+  -- and held by c
   pub back-place : Numbered (length (b .places)) m → place (cancelMessage z b c m r) m ≡ HeldBy (taskNo c)
   back-place n =
       emptied-place h r m
@@ -114,6 +116,7 @@ module _ (z : Size) (b : Board) (c m r : ℕ) where
   pub held-stat : task h r .stat ≡ task b r .stat
   held-stat = requeued-stat b r q r
 
+  -- and r may wait again
   pub back-waits : Numbered (length (b .tasks)) r → Waits (hold (withQueue b r (without m (queue z b r))) c m) r
   back-waits n = waits-again h r (rw (queue-tasks b r q) n)
 
@@ -128,21 +131,25 @@ module _ (z : Size) (b : Board) (m r : ℕ) where
   abbrev h′ : Board
   h′ = withMessage g m (withPrio (message g m) (withFifo (message b m .prio)))
 
+  -- it is the same but for its LINK, and bit 0 of PRIO is set
   pub placed-message : Numbered (length (b .messages)) m
       → block (message (placeAt z b m r) m) ≡ withPrio (block (message b m)) (withFifo (message b m .prio))
   placed-message n =
       ap block (woken-message h′ r m ∙ message-put g m _ (rw (queue-length b r q′) n))
       ∙ ap (λ (t : Message). withPrio t (withFifo (message b m .prio))) (queue-block b r q′ m)
 
+  -- it is queued at r
   pub placed-place : Numbered (length (b .places)) m → place (placeAt z b m r) m ≡ QueuedAt (taskNo r)
   placed-place n =
       woken-place h′ r m ∙ place-put (withQueue b r q′) m (QueuedAt (taskNo r)) (rw (queue-places b r q′) n)
 
+  -- no status changes before r is woken
   pub placed-stat : task h′ r .stat ≡ task b r .stat
   placed-stat = requeued-stat b r q′ r
 
   abbrev pub placing : Board
   placing = h′
 
+  -- and r may wake
   pub placed-wakes : Numbered (length (b .tasks)) r → Woke h′ r
   placed-wakes n = woke h′ r (rw (queue-tasks b r q′) n)

@@ -88,6 +88,7 @@ module _ (z : Size) (b d : Board) (q : List ℕ) (f g : ℕ → List ℕ) (s : S
       (subst (PlaceGood z d m) (sym (places m n)) (t .regular .places m n)) in
       λ i. withLink (messages m n i) (l i)
 
+  -- so the boards are one
   pub same-board : b ≡ d
   same-board =
       let o = chain-first (nextTask b) (b .first) q (s .regular .linked .tasks .chain)

@@ -54,6 +54,7 @@ unready s h = step (has s TCBB) (has s WAIT) (has s IWAT) h
     step true false false (inl e) = absurd (true≢false (sym e))
     step true false false (inr e) = absurd (true≢false (sym e))
 
+-- who is there and waits for nothing is
 pub is-ready : (s : Status) → has s TCBB ≡ true → has s WAIT ≡ false → has s IWAT ≡ false → isReady s ≡ true
 is-ready s p w i = rw (p, w, i)
 

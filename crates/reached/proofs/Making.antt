@@ -42,6 +42,7 @@ abbrev pub Makes : Size → Board → List Call → Board → Type 0
 Makes z y calls b = let made = run z (bytesOf y) calls in
     AllFit calls × (made .after ≡ bytesOf b) × All IsAccepted (made .answers)
 
+-- no calls
 pub makes-none : (z : Size) (b : Board) → Makes z b [] b
 makes-none z b = (tt, refl, tt)
 
@@ -116,6 +117,7 @@ module _ (z : Size) (a : Sizes z) (y : Board) (c : ℕ) (p : Passing z y c) (cal
       (q .idle)
       ∙ ap (λ (k : ℕ). accepted v d 0 (bytesOf (withRunning x k))) (sym (q .runs))
 
+  -- so one call makes x
   pub makes-call : Fitting call → lowest (ownRow z y c call) ≡ Go → body z y c call .board ≡ withRunning x c
       → (d ≡ c) ⊎ ((j : ℕ) → ready x j ≡ true → j ≡ d) → Makes z y (call ∷ []) x
   makes-call f g h w =

@@ -81,10 +81,12 @@ module _ (z : Size) (a : Sizes z) (b : Board) (p : Passing z b 0) (still : (j : 
   woken-rightly : RunsRightly (clears b k IWAT) k
   woken-rightly = only-runs z d (settled-d .fits .tasks) k woken-ready woken-only
 
+  -- the board is settled
   pub settled-awoken : Settled z (awoken b k) (p .order) (p .queues)
   settled-awoken =
       settled-running z d (p .order) (p .queues) k (runs-byte z d (p .order) (p .queues) a settled-d k woken-rightly) settled-d
 
+  -- and passes
   pub passing-awoken : Passing z (awoken b k) k
   passing-awoken = record {
     order = p .order;

@@ -56,6 +56,7 @@ Parked t = (t .mptr ≡ 0) × (isThere t ≡ true → has (t .stat) IWAT ≡ tru
 -- ---- a turn that changes one status
 module _ (z : Size) (c : ℕ) (Q P : Task → Type 0) (b : Board) (v : Stage z Q c b) (k : ℕ) (n : Numbered (z .tasks) k) (s : Status)
     (calls : List Call) where
+  -- the turn of k
   pub turn-stat : Q (taskWithStat (task b k) s) → P (taskWithStat (task b k) s) → Passing z (restat b k s) c
       → Makes z (restat b k s) calls b → Turned z (Stage z Q c) (λ d j. P (task d j)) b k (back (restat b k s) calls)
   turn-stat q r p m = record {

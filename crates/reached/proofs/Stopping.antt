@@ -101,6 +101,7 @@ module _ (z : Size) (a : Sizes z) (c : ℕ) (b : Board) (v : Stage z Quiet c b) 
           step true i = eqb-true k 0 i
           step false i = absurd (true≢false (sym (rw (eq-eqb (b .running) 0 (v .passing .runs ∙ e), i)) ∙ t))
 
+  -- back over the wait of the one that ran
   pub back-stopped : Earlier z (SomeLed z) b (stopped z b)
   back-stopped =
       cond-holds (Earlier z (SomeLed z) b) (eqb (b .running) 0 && not (eqb k 0))

@@ -78,5 +78,6 @@ module _ (z : Size) (Inv : List ℕ → Board → Type 0) (line : Board → ℕ 
       is-further z (Inv (p ++ x ∷ [])) (Inv p) b (unlist line q b) (λ y. line y x)
       (back-to (p ++ x ∷ []) q b (subst (λ (l : List ℕ). Inv l b) (sym (append-assoc p (x ∷ []) q)) v)) (λ d w. turn p x d w)
 
+  -- back over all of it
   pub unlisted : (q : List ℕ) (b : Board) → Inv q b → Earlier z (Inv []) b (unlist line q b)
   unlisted = back-to []

@@ -89,6 +89,7 @@ left-reached l calls f (a, new, answers, e, m) =
     let d : new ≡ blank small = e .leaves ∙ fresh-leaves (blank small) (fresh-bytes small .long) in
     (calls, f, sym (made-bytes new l calls answers m ∙ ap (λ (k : List ℕ). run small k calls .after) d))
 
+-- the check accepts just what calls can leave
 pub checked-exactly : CheckedExactly
 checked-exactly l after a h e = (
   (λ (v, c, m, w).

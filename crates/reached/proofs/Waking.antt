@@ -87,6 +87,7 @@ module _ (z : Size) (a : Sizes z) (c k : ℕ) (b : Board) (n : Numbered (z .task
   slept-fewer j = nth-cases (λ (x : Task). isReady (x .stat) ≡ true → ready b j ≡ true) noTask (b .tasks) k j t
       (λ d r. absurd (true≢false (sym r ∙ asleep))) (λ r. r)
 
+  -- it waits for an interrupt
   pub slept-parked : has (task (sets b k IWAT) k .stat) IWAT ≡ true
   slept-parked = ap (λ (x : Status). has x IWAT) (restat-stat b k (withBit s IWAT) (rw (st .fits .tasks) n))
       ∙ withBit-has IWAT refl s (st .fits .task k .stat)
@@ -135,9 +136,11 @@ module _ (z : Size) (a : Sizes z) (c k : ℕ) (b : Board) (n : Numbered (z .task
       idle = refl;
     }
 
+    -- nobody is ready then
     pub still-w : Stage z Still 0 (withRunning (sets b k IWAT) 0)
     still-w = record { passing = passing-w; all = λ j g. (slept-bare j g, still j) }
 
+    -- and a post makes it run
     pub makes-start : Makes z (withRunning (sets b k IWAT) 0) (PostInterrupt k ∷ []) b
     makes-start =
         subst (Makes z w (PostInterrupt k ∷ []))
