@@ -5,7 +5,7 @@ use Prim.Native.Nat.{ℕ}
 use Rattle.board.specs.Numbers.{small}
 use Rattle.paper.specs.Outcomes.{blank}
 use Rattle.paper.specs.History.{Made}
-use Rattle.paper.proofs.Coded.{made-answers, made-bytes, fresh-leaves}
+use Rattle.paper.proofs.Histories.{made-answers, made-bytes, fresh-leaves}
 use Rattle.kept.proofs.Theorems.{small-sizes}
 use Rattle.history.specs.Machine.{start}
 use Rattle.history.specs.Claims.{Agrees, plainRun, CodeAgrees}

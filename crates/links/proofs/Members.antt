@@ -178,6 +178,11 @@ pub all-map : {A : Type 0} {P Q : A → Type 0} → ((x : A) → P x → Q x) �
 all-map f [] h = tt
 all-map f (x ∷ q) h = (f x (h .0), all-map f q (h .1))
 
+-- what holds of two lists holds of both together
+pub all-append : {A : Type 0} (P : A → Type 0) (l m : List A) → All P l → All P m → All P (l ++ m)
+all-append P [] m h g = g
+all-append P (x ∷ l) m h g = (h .0, all-append P l m (h .1) g)
+
 -- ---- how many there can be
 -- a list with no repeats is no longer than one that has all its members
 pub once-length : (q l : List ℕ) → Once q → All (λ y. In y l) q → length q ≤ length l

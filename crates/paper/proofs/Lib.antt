@@ -7,4 +7,4 @@ pub mod Rows
 pub mod Which
 pub mod Theorems
 pub mod Naming
-pub mod Coded
+pub mod Histories

@@ -9,15 +9,16 @@ use native.Mathlib.Decide.{ℕ-discrete}
 use lib.ListN.{length}
 use borrow.Author.Tests.{eq-eqb}
 use Rattle.links.specs.Chain.{All}
+use Rattle.links.proofs.Members.{all-append}
 use Rattle.board.specs.declared.numbers.Size.{Size}
 use Rattle.board.specs.Status.{MHBS, has}
 use Rattle.board.specs.Board.{Board, total, bytesOf, task, withRunning}
 use Rattle.paper.specs.declared.call.Call.{Call}
-use Rattle.paper.specs.declared.answer.Answer.{Answer}
 use Rattle.paper.specs.Rules.{ready, mayRun, firstReady, runsNext}
 use Rattle.paper.specs.Refusals.{no1, no2, ownRow, row, Verdict, Go, lowest}
 use Rattle.paper.specs.Outcomes.{Outcome, accepted, undispatched, judge, body, deliver, dispatchTo, dispatch, called, effect}
 use Rattle.paper.specs.History.{run}
+use Rattle.paper.proofs.Histories.{after-append, answers-append}
 use Rattle.linked.specs.Sound.{RunsRightly}
 use Rattle.linked.proofs.Chosen.{leads-may}
 use Rattle.kept.specs.Settled.{Settled, Fitting, AllFit}
@@ -45,21 +46,6 @@ Makes z y calls b = let made = run z (bytesOf y) calls in
 -- no calls
 pub makes-none : (z : Size) (b : Board) → Makes z b [] b
 makes-none z b = (tt, refl, tt)
-
-all-append : {A : Type 0} (P : A → Type 0) (l m : List A) → All P l → All P m → All P (l ++ m)
-all-append P [] m h g = g
-all-append P (x ∷ l) m h g = (h .0, all-append P l m (h .1) g)
-
-after-append : (z : Size) (l : List ℕ) (calls more : List Call)
-    → run z l (calls ++ more) .after ≡ run z (run z l calls .after) more .after
-after-append z l [] more = refl
-after-append z l (call ∷ calls) more = after-append z (effect z l call .after) calls more
-
-answers-append : (z : Size) (l : List ℕ) (calls more : List Call)
-    → run z l (calls ++ more) .answers ≡ run z l calls .answers ++ run z (run z l calls .after) more .answers
-answers-append z l [] more = refl
-answers-append z l (call ∷ calls) more =
-    ap (λ (k : List Answer). effect z l call .answer ∷ k) (answers-append z (effect z l call .after) calls more)
 
 -- some, and then others
 pub makes-then : (z : Size) (x y b : Board) (calls more : List Call) → Makes z x calls y → Makes z y more b

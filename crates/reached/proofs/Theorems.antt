@@ -17,7 +17,7 @@ use Rattle.paper.specs.Outcomes.{blank, effect, fresh}
 use Rattle.paper.specs.History.{run, Made}
 use Rattle.paper.proofs.Theorems.{accepted-passed}
 use Rattle.paper.proofs.Naming.{verdict-stays}
-use Rattle.paper.proofs.Coded.{made-bytes, run-made, fresh-leaves}
+use Rattle.paper.proofs.Histories.{made-bytes, run-made, fresh-leaves}
 use Rattle.kept.specs.Settled.{AllFit}
 use Rattle.kept.specs.Claims.{Sizes}
 use Rattle.kept.proofs.Fitting.{fits-board}

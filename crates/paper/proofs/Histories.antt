@@ -1,11 +1,12 @@
--- What a program that meets the contracts of fresh and of the step is handed and leaves: answers and bytes of the definitions.
+-- Calls made one after another: some, and then others; and what a program that meets the contracts is handed and leaves.
 -- Assumes nothing.
 use mathlib.Core.Path.{_≡_, refl, ap, _∙_}
 use mathlib.Core.Bool.{Bool, not}
-use mathlib.Core.List.{List, [], _∷_}
+use mathlib.Core.List.{List, [], _∷_, _++_}
 use Prim.Native.Nat.{ℕ}
 use lib.ListN.{length}
 use borrow.Author.Tests.{eq-eqb}
+use Rattle.board.specs.declared.numbers.Size.{Size}
 use Rattle.board.specs.Numbers.{small}
 use Rattle.board.specs.Board.{total}
 use Rattle.paper.specs.declared.call.Call.{Call}
@@ -15,6 +16,21 @@ use Rattle.paper.specs.Refusals.{test, lowest}
 use Rattle.paper.specs.Outcomes.{accepted, judge, blank, effect, fresh}
 use Rattle.paper.specs.History.{run, Made}
 
+-- ---- some calls, and then others
+-- the bytes after them
+pub after-append : (z : Size) (l : List ℕ) (calls more : List Call)
+    → run z l (calls ++ more) .after ≡ run z (run z l calls .after) more .after
+after-append z l [] more = refl
+after-append z l (call ∷ calls) more = after-append z (effect z l call .after) calls more
+
+-- their answers
+pub answers-append : (z : Size) (l : List ℕ) (calls more : List Call)
+    → run z l (calls ++ more) .answers ≡ run z l calls .answers ++ run z (run z l calls .after) more .answers
+answers-append z l [] more = refl
+answers-append z l (call ∷ calls) more =
+    ap (λ (k : List Answer). effect z l call .answer ∷ k) (answers-append z (effect z l call .after) calls more)
+
+-- ---- a program that meets the contracts of fresh and of the step
 -- it is handed the answers of the definitions
 pub made-answers : (l d : List ℕ) (calls : List Call) (answers : List Answer) → Made l calls answers d
     → answers ≡ run small l calls .answers
