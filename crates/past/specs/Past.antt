@@ -1,10 +1,10 @@
 -- Document 02, Ask 4: a past of a board that passes. A board has many; this one is found by going back. A line says what the board has, the
--- earlier board that had it not, and the calls that lead from that one to this one. At the end there is no task and no message left. Whether
--- it does so need not be believed: it is proved (PastRebuilds, Claims).
+-- earlier board that had it not, and the calls that lead from that one to this one, until there is no message and no task left. That the
+-- calls do make the board again need not be believed: it is proved (PastRebuilds in Rattle.reached, specs/Claims).
 --   Back               an earlier board, and the calls that lead from it
---   here b             b itself; further y f: from the earlier board of y back by f
+--   here b             b itself; further y f: from the earlier board of y back by f; through lines b: back by each of the lines
 --   sweep line n b     back over the numbers n to 1, each by the line; unlist line q b: back over the list q, from its last to its first
---   posted .. installed   the lines, the latest first; a task that waits for an interrupt with nothing queued is parked
+--   posted .. installed   the lines, the latest first. A task is parked where it waits for an interrupt (IWAT)
 --   past z b           the calls that lead from the fresh board to b
 -- Assumes nothing.
 use mathlib.Core.Bool.{Bool, cond, not, _&&_, _||_}
@@ -51,7 +51,7 @@ unlist line (x ∷ q) b = further (unlist line q b) (λ y. line y x)
 abbrev pub posted : Board → ℕ → Back
 posted b k = cond (has (task b k .stat) INTQ) (back (clears b k INTQ) (PostInterrupt k ∷ [])) (here b)
 
--- ---- messages in queues: somebody ran and forwarded them. Where nobody runs, the first task with a queue did, and then waited for an interrupt
+-- ---- messages in queues: the running task held and forwarded them. Where nobody runs, the first task with a queue ran, and then parked
 abbrev pub stopped : Size → Board → Back
 stopped z b = let k = smallestFailing (emptyQueue b) (z .tasks) in
     cond (eqb (b .running) 0 && not (eqb k 0)) (back (withRunning (clears b k IWAT) k) (WaitForInterrupt ∷ [])) (here b)
