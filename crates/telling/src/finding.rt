@@ -7,6 +7,7 @@ ghost use Rattle.paper.specs.Conversion.{convert};
 ghost use Rattle.telling.specs.Findings.{findingOf};
 use crate::print::decimal;
 use crate::print::text;
+use crate::print::thousands;
 use for_c::pack::record_number;
 use for_c::pack::refusal_number;
 use for_c::pack::rule_number;
@@ -25,19 +26,6 @@ pub enum Finding {
 
 // A program reads so many bytes at most: more are not counted.
 const MOST: usize = 65536;
-
-// A number with a comma before its last three digits.
-fn thousands(n: u64) {
-    if n < 1000 {
-        decimal(n);
-        return;
-    }
-    decimal(n / 1000);
-    text(b",");
-    decimal(n / 100 % 10);
-    decimal(n / 10 % 10);
-    decimal(n % 10);
-}
 
 fn tell_bytes(n: usize) {
     thousands(n as u64);

@@ -25,7 +25,7 @@ pub fn pad(taken: usize, width: usize) -> usize
 }
 
 pub fn decimal(n: u64) -> usize
-    ensures { λ res. ⌜ Fewest 10 1 n res ⌝ }
+    ensures { λ res. ⌜ (Fewest 10 1 n res) × (res ≤ 20) ⌝ }
 {
     let mut digits = [0u8; 20];
     let k = io::decimal(n, &mut digits);
@@ -51,6 +51,20 @@ fn hex_digit(w: u16) -> u8 {
         return (48 + d) as u8;
     }
     (55 + d) as u8
+}
+
+// A number below a million, with a comma before its last three digits.
+pub fn thousands(n: u64) -> usize
+    ensures { λ res. ⌜ res ≤ 24 ⌝ }
+{
+    if n < 1000 {
+        return decimal(n);
+    }
+    decimal(n / 1000) + text(&[b',', last_digit(n / 100), last_digit(n / 10), last_digit(n)])
+}
+
+fn last_digit(n: u64) -> u8 {
+    (48 + n % 10) as u8
 }
 
 // A byte as the paper writes it, with an H behind it.
