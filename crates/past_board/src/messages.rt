@@ -67,10 +67,10 @@ fn release(l: &[u8], d: &mut [u8], made: Made, k: u16, m: u16) -> Made
 }
 
 // What a group has of message m. Those behind the last that is used are never claimed.
-fn of_message(l: &[u8], d: &mut [u8], made: Made, m: u16, f: u16, group: Group) -> Made
+fn of_message(l: &[u8], d: &mut [u8], made: Made, m: u16, filler: u16, group: Group) -> Made
     requires { ⌜ total small ≤ length (now l) ⌝ }
 {
-    let k = claimer(l, f, m);
+    let k = claimer(l, filler, m);
     if k == 0 {
         return made;
     }
@@ -82,14 +82,14 @@ fn of_message(l: &[u8], d: &mut [u8], made: Made, m: u16, f: u16, group: Group) 
 }
 
 // A group that goes by the numbers of the messages.
-pub(crate) fn each_message(l: &[u8], d: &mut [u8], made: Made, f: u16, group: Group) -> Made
+pub(crate) fn each_message(l: &[u8], d: &mut [u8], made: Made, filler: u16, group: Group) -> Made
     requires { ⌜ total small ≤ length (now l) ⌝ }
 {
     let mut made = begin(made, group);
     let mut m: u16 = 0;
     while m < 128 {
         m += 1;
-        made = of_message(l, d, made, m, f, group);
+        made = of_message(l, d, made, m, filler, group);
     }
     made
 }

@@ -11,7 +11,7 @@ use lent::by_word::task_meant;
 
 // Who fills the queues: the running task. Where no task runs it is the first by number that has a queue, which waits for an
 // interrupt; 0 where none has one.
-pub(crate) fn filler(l: &[u8], runs: u16) -> u16
+pub(crate) fn who_fills(l: &[u8], runs: u16) -> u16
     requires { ⌜ total small ≤ length (now l) ⌝ }
 {
     if runs != 0 {
@@ -55,21 +55,21 @@ pub(crate) fn is_guest(l: &[u8], k: u16) -> bool
 }
 
 // Who claims a message that ends in this place: its holder, or who fills the queues; 0 where it is free.
-fn claims(p: Place, f: u16) -> u16 {
+fn claims(p: Place, filler: u16) -> u16 {
     match p {
         Place::HeldBy(k) => k.number(),
-        Place::QueuedAt(_) => f,
+        Place::QueuedAt(_) => filler,
         _ => 0,
     }
 }
 
 // Who claims message m: of a free one it is who claims the next that is not; 0 where all behind it are free, so none is claimed.
-pub(crate) fn claimer(l: &[u8], f: u16, m: u16) -> u16
+pub(crate) fn claimer(l: &[u8], filler: u16, m: u16) -> u16
     requires { ⌜ total small ≤ length (now l) ⌝ }
 {
     let mut n = m;
     while n <= 128 {
-        let k = claims(place_meant(Size::SMALL, l, n), f);
+        let k = claims(place_meant(Size::SMALL, l, n), filler);
         if k != 0 {
             return k;
         }

@@ -106,8 +106,8 @@ fn wait(d: &mut [u8], made: Made, k: u16, s: Status) -> Made {
 }
 
 // Task k is ready and due no message. Who fills the queues is posted already.
-fn wake(d: &mut [u8], made: Made, k: u16, s: Status, f: u16) -> Made {
-    if k == f {
+fn wake(d: &mut [u8], made: Made, k: u16, s: Status, filler: u16) -> Made {
+    if k == filler {
         return made;
     }
     if s.has(Status::MHBS) {
@@ -127,7 +127,7 @@ fn queue_interrupt(d: &mut [u8], made: Made, k: u16, s: Status) -> Made {
 }
 
 // What a group has of task k.
-fn of_task(l: &[u8], d: &mut [u8], made: Made, k: u16, f: u16, group: Group) -> Made
+fn of_task(l: &[u8], d: &mut [u8], made: Made, k: u16, filler: u16, group: Group) -> Made
     requires { ⌜ total small ≤ length (now l) ⌝ }
 {
     let t = task_meant(Size::SMALL, l, k);
@@ -135,7 +135,7 @@ fn of_task(l: &[u8], d: &mut [u8], made: Made, k: u16, f: u16, group: Group) -> 
     match group {
         Group::Gone => dismiss(l, d, made, k),
         Group::Waiting => wait(d, made, k, s),
-        Group::Ready => wake(d, made, k, s, f),
+        Group::Ready => wake(d, made, k, s, filler),
         Group::Queues => fill_queue(l, d, made, k),
         Group::Posted => queue_interrupt(d, made, k, s),
         _ => made,
@@ -143,29 +143,29 @@ fn of_task(l: &[u8], d: &mut [u8], made: Made, k: u16, f: u16, group: Group) -> 
 }
 
 // A group that goes by the numbers of the tasks.
-pub(crate) fn each_task(l: &[u8], d: &mut [u8], made: Made, f: u16, group: Group) -> Made
+pub(crate) fn each_task(l: &[u8], d: &mut [u8], made: Made, filler: u16, group: Group) -> Made
     requires { ⌜ total small ≤ length (now l) ⌝ }
 {
     let mut made = begin(made, group);
     let mut k: u16 = 0;
     while k < 32 {
         k += 1;
-        made = of_task(l, d, made, k, f, group);
+        made = of_task(l, d, made, k, filler, group);
     }
     made
 }
 
 // Who fills the queues runs.
-pub(crate) fn post_filler(d: &mut [u8], made: Made, f: u16) -> Made {
-    if f == 0 {
+pub(crate) fn post_filler(d: &mut [u8], made: Made, filler: u16) -> Made {
+    if filler == 0 {
         return made;
     }
-    post(d, begin(made, Group::Runs), f)
+    post(d, begin(made, Group::Runs), filler)
 }
 
 // Where no task runs on the board, it waits for an interrupt again.
-pub(crate) fn rest_filler(d: &mut [u8], made: Made, f: u16, runs: u16) -> Made {
-    if f == runs {
+pub(crate) fn rest_filler(d: &mut [u8], made: Made, filler: u16, runs: u16) -> Made {
+    if filler == runs {
         return made;
     }
     make(d, begin(made, Group::Rests), Call::WaitForInterrupt)

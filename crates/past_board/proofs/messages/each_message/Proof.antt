@@ -7,10 +7,10 @@ use Rattle.past_board.proofs.messages.each_message.Statement.{statement
 use Rattle.past_board.proofs.messages.each_message.Tie as tie
 
 abbrev Inv-loop : tie.InvT-loop
-Inv-loop l d₀ f group made₀ m₀ d made m = (length d ≡ length d₀) × (m ≤ 128)
+Inv-loop l d₀ filler group made₀ m₀ d made m = (length d ≡ length d₀) × (m ≤ 128)
 
 abbrev μ-loop : tie.MeasureT-loop
-μ-loop l d₀ f group made₀ m₀ d made m = 128 - m
+μ-loop l d₀ filler group made₀ m₀ d made m = 128 - m
 
 pub each-message-spec : {M : Type 1} → statement M
 each-message-spec =

@@ -5,10 +5,10 @@ use Rattle.past_board.proofs.roles.claimer.Statement.{statement}
 use Rattle.past_board.proofs.roles.claimer.Tie as tie
 
 abbrev Inv-loop : tie.InvT-loop
-Inv-loop l f m n₀ n = Unit {0}
+Inv-loop l filler m n₀ n = Unit {0}
 
 abbrev μ-loop : tie.MeasureT-loop
-μ-loop l f m n₀ n = 129 - n
+μ-loop l filler m n₀ n = 129 - n
 
 pub claimer-spec : {M : Type 1} → statement M
 claimer-spec =

@@ -7,10 +7,10 @@ use Rattle.past_board.proofs.tasks.each_task.Statement.{statement}
 use Rattle.past_board.proofs.tasks.each_task.Tie as tie
 
 abbrev Inv-loop : tie.InvT-loop
-Inv-loop l d₀ f group made₀ k₀ d made k = (length d ≡ length d₀) × (k ≤ 32)
+Inv-loop l d₀ filler group made₀ k₀ d made k = (length d ≡ length d₀) × (k ≤ 32)
 
 abbrev μ-loop : tie.MeasureT-loop
-μ-loop l d₀ f group made₀ k₀ d made k = 32 - k
+μ-loop l d₀ filler group made₀ k₀ d made k = 32 - k
 
 pub each-task-spec : {M : Type 1} → statement M
 each-task-spec =
