@@ -1,7 +1,7 @@
 -- Document 02, Ask 4, as statements; their proofs are in proofs/Theorems. A reader must believe this file, and needs passes, run, blank
 -- and Call of paper to read the first.
 --   Reached z l      some list of the nineteen calls, made from the fresh board, ends in the bytes l
---   HasPast         a list is the bytes of a board that passes exactly if it is reached
+--   HasPast          a list is the bytes of a board that passes exactly if it is reached
 --   PastRebuilds     the calls that past gives of a board that passes end in its very bytes, and none of them is refused
 --   MadeFresh l calls d   code that meets the contracts of fresh and of the step (Rattle.station, src/lib.rt), lent l, makes it fresh, makes
 --                    these calls and leaves d
