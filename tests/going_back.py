@@ -1,22 +1,26 @@
-"""The past of a board by going back, line by line as crates/past/specs/Past.antt has it, on records in Python: what tests/past holds the
-program past_board to, which reads the same calls off the board forwards. A call is its words, as past_board prints them."""
+"""The past of a board by going back, line by line as crates/past/specs/Past.antt has it, on records in Python: what tests/past
+holds the program past_board to, which reads the same calls off the board forwards. A call is its words, as past_board tells it."""
+import pathlib
 import struct
+import sys
+
+sys.path.append(str(pathlib.Path(__file__).resolve().parent / "cases"))
+from layout import MESSAGES, RUNNING, TASKS, message, place, task
 
 WAIT, IWAT, INTQ, MHBS, TCBB = 0x80, 0x40, 0x10, 0x02, 0x01
-TASKS, MESSAGES, QUEUED = 32, 128, 64
 GUEST_STAT, GUEST_PRIO = 0x01, 0xFD
+TASK, OF_TASK = struct.Struct("<BBHHHH"), ("stat", "prio", "link", "mptr", "sptr", "name")
+MESSAGE, OF_MESSAGE = struct.Struct("<BBHHH"), ("stat", "prio", "link", "rptr", "sptr")
 
 
 class Board:
-    """Records by number, from 1; number 0 and those beyond the board read as zeros, as in the definitions."""
+    """The records of a board by their numbers, and a place byte for each message."""
 
     def __init__(self, data):
-        self.first, self.running = data[0], data[1]
-        tasks = [list(struct.unpack_from("<BBHHHH", data, 4 + 10 * i)) for i in range(TASKS)]
-        self.tasks = {k + 1: dict(zip(("stat", "prio", "link", "mptr", "sptr", "name"), t)) for k, t in enumerate(tasks)}
-        mail = [list(struct.unpack_from("<BBHHH", data, 324 + 8 * i)) for i in range(MESSAGES)]
-        self.messages = {m + 1: dict(zip(("stat", "prio", "link", "rptr", "sptr"), u)) for m, u in enumerate(mail)}
-        self.places = {m + 1: data[1348 + m] for m in range(MESSAGES)}
+        self.first, self.running = data[0], data[RUNNING]
+        self.tasks = {k: dict(zip(OF_TASK, TASK.unpack_from(data, task(k)))) for k in range(1, TASKS + 1)}
+        self.messages = {m: dict(zip(OF_MESSAGE, MESSAGE.unpack_from(data, message(m)))) for m in range(1, MESSAGES + 1)}
+        self.places = {m: data[place(m)] for m in range(1, MESSAGES + 1)}
 
     def has(self, k, bit):
         return bool(self.tasks[k]["stat"] & bit)
