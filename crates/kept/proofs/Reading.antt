@@ -33,7 +33,6 @@ use Rattle.linked.proofs.Tests.{says-isQueuedAt, says-isHeldBy}
 use Rattle.linked.proofs.Listings.{listing-walk}
 use Rattle.kept.specs.Settled.{FitsTask, FitsMessage, Fits, Settled}
 
--- ---- a choice
 -- ---- one record written, of any kind
 getD-cases : {A : Type 0} (P : A → Type 0) (none : A) (l : List A) (k j : ℕ) (x : A) → (j ≡ k → P x) → P (getD l j none)
     → P (getD (set l k x) j none)

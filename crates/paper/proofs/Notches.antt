@@ -1,5 +1,5 @@
 -- Boards that a rule one notch looser would let pass, and boards that one a notch stricter would refuse. What life says of them, whether calls
--- can make them, is told in Rattle.past, proofs/Cases. Worked cases on the board of Slips.
+-- can make them, is told in Rattle.reached, proofs/Cases. Worked cases on the board of Slips.
 -- Assumes nothing.
 use mathlib.Core.Path.{_≡_, refl}
 use mathlib.Core.Bool.{true, false}

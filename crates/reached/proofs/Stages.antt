@@ -1,4 +1,4 @@
--- The stages on the way back: what holds of every task record. Rows that refuse nothing.
+-- The stages on the way back: what holds of every task record, and of messages; and who then holds a message, or is its receiver.
 -- Assumes nothing.
 use mathlib.Core.Path.{_≡_, refl, sym, ap, _∙_, subst}
 use mathlib.Core.Logic.{_≢_}
