@@ -14,7 +14,7 @@ use Rattle.board.specs.declared.numbers.Size.{Size}
 use Rattle.board.specs.declared.numbers.MessageMeant.{MessageMeant}
 use Rattle.board.specs.declared.numbers.MessageMeant.the-variants.{NoMessage}
 use Rattle.board.specs.declared.places.Place.{Place}
-use Rattle.board.specs.declared.places.Place.the-variants.{Free, HeldBy, QueuedAt, Nowhere}
+use Rattle.board.specs.declared.places.Place.the-variants.{Free, HeldBy, QueuedAt, OnTimer, Nowhere}
 use Rattle.board.specs.Numbers.{messageMeant}
 use Rattle.board.specs.Places.{isFree}
 use Rattle.board.specs.Board.{Board, boardOf, place}
@@ -33,6 +33,7 @@ not-free : (p : Place) → OneOf (1 ∷ 2 ∷ 3 ∷ []) (tagOf the-type p) → i
 not-free Free i = absurd (⊎-elim (λ f. omega arith) (λ j. ⊎-elim (λ f. omega arith) (λ f. omega arith) j) i)
 not-free (HeldBy k) i = refl
 not-free (QueuedAt k) i = refl
+not-free OnTimer i = refl
 not-free (Nowhere n) i = refl
 
 module _ (z : Size) (l : List ℕ) where

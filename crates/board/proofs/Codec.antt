@@ -16,7 +16,7 @@ use Rattle.board.specs.declared.numbers.Size.{Size}
 use Rattle.board.specs.declared.records.Task.{Task}
 use Rattle.board.specs.declared.records.Message.{Message}
 use Rattle.board.specs.declared.places.Place.{Place}
-use Rattle.board.specs.declared.places.Place.the-variants.{Free, HeldBy, QueuedAt, Nowhere}
+use Rattle.board.specs.declared.places.Place.the-variants.{Free, HeldBy, QueuedAt, OnTimer, Nowhere}
 use Rattle.board.specs.Numbers.{outside, taskNo}
 use Rattle.board.specs.Records.{wordAt, wordBytes, taskOf, taskBytes, messageOf, messageBytes}
 use Rattle.board.specs.Places.{placeOf, placeByte, placeIn, placeBytes}
@@ -120,10 +120,14 @@ pub place-receiver : (z : Size) (p k : ℕ) → p ≢ 0 → outside (z .tasks) p
     → placeOf z p ≡ QueuedAt (taskNo k)
 place-receiver z p k n o e f = rw (e, f, o, ne-eqb p 0 n)
 
--- any other byte names no task
-pub place-nowhere : (z : Size) (p : ℕ) → p ≢ 0 → outside (z .tasks) p ≡ true → outside (z .tasks) (p - 64) ≡ true
+-- a byte that names neither says on the timer if it is 128, else nothing
+pub place-timer : (z : Size) (p : ℕ) → p ≡ 128 → outside (z .tasks) p ≡ true → outside (z .tasks) (p - 64) ≡ true
+    → placeOf z p ≡ OnTimer
+place-timer z p e o f = rw (f, o, ne-eqb p 0 (λ (i : p ≡ 0). omega arith), eq-eqb p 128 e)
+
+pub place-nowhere : (z : Size) (p : ℕ) → p ≢ 0 → p ≢ 128 → outside (z .tasks) p ≡ true → outside (z .tasks) (p - 64) ≡ true
     → placeOf z p ≡ Nowhere p
-place-nowhere z p n o f = rw (f, o, ne-eqb p 0 n)
+place-nowhere z p n h o f = rw (f, o, ne-eqb p 0 n, ne-eqb p 128 h)
 
 -- the byte 64 + k says queued at task k
 pub place-queued : (z : Size) (k : ℕ) → 1 ≤ k → k ≤ z .tasks → z .tasks ≤ 63 → placeOf z (64 + k) ≡ QueuedAt (taskNo k)
@@ -133,17 +137,18 @@ place-queued z k h l m =
 
 -- the byte of a place is the byte that it was read from
 pub place-whole : (z : Size) (p : ℕ) → p < 256 → placeByte (placeOf z p) % 256 ≡ p
-place-whole z p h = go (eqb p 0) refl (outside (z .tasks) p) refl (outside (z .tasks) (p - 64)) refl
+place-whole z p h = go (eqb p 0) refl (outside (z .tasks) p) refl (outside (z .tasks) (p - 64)) refl (eqb p 128) refl
   where
     from : (x : Place) → placeOf z p ≡ x → placeByte x ≡ p → placeByte (placeOf z p) % 256 ≡ p
     from x e q = ap (λ (y : Place). placeByte y % 256) e ∙ ap (λ (n : ℕ). n % 256) q ∙ mod-eq-of-lt h
 
     go : (s : Bool) → eqb p 0 ≡ s → (t : Bool) → outside (z .tasks) p ≡ t → (u : Bool) → outside (z .tasks) (p - 64) ≡ u
-        → placeByte (placeOf z p) % 256 ≡ p
-    go true e t f u g = from Free (place-free z p (eqb-true p 0 e)) (sym (eqb-true p 0 e))
-    go false e false f u g = let b = outside-within (z .tasks) p f in from (HeldBy (taskNo p)) (place-held z p (b .0) (b .1)) refl
-    go false e true f true g = from (Nowhere p) (place-nowhere z p (eqb-false p 0 e) f g) refl
-    go false e true f false g =
+        → (v : Bool) → eqb p 128 ≡ v → placeByte (placeOf z p) % 256 ≡ p
+    go true e t f u g v i = from Free (place-free z p (eqb-true p 0 e)) (sym (eqb-true p 0 e))
+    go false e false f u g v i = let b = outside-within (z .tasks) p f in from (HeldBy (taskNo p)) (place-held z p (b .0) (b .1)) refl
+    go false e true f true g true i = from OnTimer (place-timer z p (eqb-true p 128 i) f g) (sym (eqb-true p 128 i))
+    go false e true f true g false i = from (Nowhere p) (place-nowhere z p (eqb-false p 0 e) (eqb-false p 128 i) f g) refl
+    go false e true f false g v i =
         let b = outside-within (z .tasks) (p - 64) g in
         let q : 64 + (p - 64) ≡ p = omega arith in
         from (QueuedAt (taskNo (p - 64))) (place-receiver z p (p - 64) (eqb-false p 0 e) f refl g) q

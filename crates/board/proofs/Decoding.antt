@@ -11,12 +11,12 @@ use Rattle.board.specs.declared.numbers.Size.{Size}
 use Rattle.board.specs.declared.numbers.TaskNo.{TaskNo}
 use Rattle.board.specs.declared.numbers.TaskMeant.the-variants.{Task, NoTask}
 use Rattle.board.specs.declared.places.Place.{Place}
-use Rattle.board.specs.declared.places.Place.the-variants.{Free, HeldBy, QueuedAt, Nowhere}
+use Rattle.board.specs.declared.places.Place.the-variants.{Free, HeldBy, QueuedAt, OnTimer, Nowhere}
 use Rattle.board.specs.Numbers.{outside, taskNo, taskMeant}
 use Rattle.board.specs.Places.{placeOf, isQueuedAt}
 use Rattle.board.proofs.Pieces.{outside-within, within-outside, outside-zero, outside-above}
 use Rattle.board.proofs.Meant.{taskMeant-task, taskMeant-none}
-use Rattle.board.proofs.Codec.{place-free, place-held, place-receiver, place-nowhere}
+use Rattle.board.proofs.Codec.{place-free, place-held, place-receiver, place-timer, place-nowhere}
 
 -- ---- a place byte, by the tasks that it and it less 64 mean
 -- it means a task
@@ -28,11 +28,16 @@ placeOf-holder z p k e =
 
 -- it means none and is too low to mean a receiver
 pub placeOf-low : (z : Size) (p : ℕ) → p ≢ 0 → taskMeant z p ≡ NoTask → p < 64 → placeOf z p ≡ Nowhere p
-placeOf-low z p n e h = place-nowhere z p n (taskMeant-none z p e) (outside-zero (z .tasks) (p - 64) (omega arith))
+placeOf-low z p n e h =
+    place-nowhere z p n (λ (i : p ≡ 128). omega arith) (taskMeant-none z p e) (outside-zero (z .tasks) (p - 64) (omega arith))
 
 -- neither means a task
-pub placeOf-none : (z : Size) (p : ℕ) → p ≢ 0 → taskMeant z p ≡ NoTask → taskMeant z (p - 64) ≡ NoTask → placeOf z p ≡ Nowhere p
-placeOf-none z p n e f = place-nowhere z p n (taskMeant-none z p e) (taskMeant-none z (p - 64) f)
+pub placeOf-timer : (z : Size) (p : ℕ) → p ≡ 128 → taskMeant z p ≡ NoTask → taskMeant z (p - 64) ≡ NoTask → placeOf z p ≡ OnTimer
+placeOf-timer z p h e f = place-timer z p h (taskMeant-none z p e) (taskMeant-none z (p - 64) f)
+
+pub placeOf-none : (z : Size) (p : ℕ) → p ≢ 0 → p ≢ 128 → taskMeant z p ≡ NoTask → taskMeant z (p - 64) ≡ NoTask
+    → placeOf z p ≡ Nowhere p
+placeOf-none z p n h e f = place-nowhere z p n h (taskMeant-none z p e) (taskMeant-none z (p - 64) f)
 
 -- it means none, and less 64 a task
 pub placeOf-receiver : (z : Size) (p : ℕ) (k : TaskNo) → p ≢ 0 → taskMeant z p ≡ NoTask → taskMeant z (p - 64) ≡ Task k
@@ -45,17 +50,18 @@ placeOf-receiver z p k n e f =
 module _ (z : Size) (k p : ℕ) where
   -- it says so only as 64 + k, beyond every holder, for a task of the board
   queued-says : isQueuedAt k (placeOf z p) ≡ true → (p ≡ 64 + k) × (z .tasks < p) × (k ≢ 0) × (k ≤ z .tasks)
-  queued-says e = go (eqb p 0) refl (outside (z .tasks) p) refl (outside (z .tasks) (p - 64)) refl
+  queued-says e = go (eqb p 0) refl (outside (z .tasks) p) refl (outside (z .tasks) (p - 64)) refl (eqb p 128) refl
     where
       no : (x : Place) → placeOf z p ≡ x → isQueuedAt k x ≡ false → (p ≡ 64 + k) × (z .tasks < p) × (k ≢ 0) × (k ≤ z .tasks)
       no x f g = absurd (true≢false (sym e ∙ ap (isQueuedAt k) f ∙ g))
 
       go : (s : Bool) → eqb p 0 ≡ s → (t : Bool) → outside (z .tasks) p ≡ t → (u : Bool) → outside (z .tasks) (p - 64) ≡ u
-          → (p ≡ 64 + k) × (z .tasks < p) × (k ≢ 0) × (k ≤ z .tasks)
-      go true f t g u h = no Free (place-free z p (eqb-true p 0 f)) refl
-      go false f false g u h = let b = outside-within (z .tasks) p g in no (HeldBy (taskNo p)) (place-held z p (b .0) (b .1)) refl
-      go false f true g true h = no (Nowhere p) (place-nowhere z p (eqb-false p 0 f) g h) refl
-      go false f true g false h =
+          → (v : Bool) → eqb p 128 ≡ v → (p ≡ 64 + k) × (z .tasks < p) × (k ≢ 0) × (k ≤ z .tasks)
+      go true f t g u h v i = no Free (place-free z p (eqb-true p 0 f)) refl
+      go false f false g u h v i = let b = outside-within (z .tasks) p g in no (HeldBy (taskNo p)) (place-held z p (b .0) (b .1)) refl
+      go false f true g true h true i = no OnTimer (place-timer z p (eqb-true p 128 i) g h) refl
+      go false f true g true h false i = no (Nowhere p) (place-nowhere z p (eqb-false p 0 f) (eqb-false p 128 i) g h) refl
+      go false f true g false h v i =
           let b = outside-within (z .tasks) (p - 64) h in
           let q = place-receiver z p (p - 64) (eqb-false p 0 f) g refl h in
           let r : p - 64 ≡ k = eqb-true (p - 64) k (sym (ap (isQueuedAt k) q) ∙ e) in

@@ -1,4 +1,4 @@
-// Where a message is: the place byte, decoded. A byte that names no task of the board is kept as it is, so nothing is lost.
+// Where a message is: the place byte, decoded. A byte that says nothing is kept as it is, so nothing is lost.
 ghost use mathlib.Core.Path.{_≡_};
 ghost use Prim.Native.Nat.{_%_};
 ghost use Rattle.board.specs.Places.{placeOf, placeByte, isHeldBy, isQueuedAt};
@@ -10,6 +10,7 @@ pub enum Place {
     Free,
     HeldBy(TaskNo),
     QueuedAt(TaskNo),
+    OnTimer,
     Nowhere(u8),
 }
 
@@ -29,10 +30,13 @@ impl Place {
             return Place::Nowhere(p);
         }
         let receiver = TaskNo::meant(z, (p - 64) as u16);
-        let TaskMeant::Task(r) = receiver else {
-            return Place::Nowhere(p);
-        };
-        Place::QueuedAt(r)
+        if let TaskMeant::Task(r) = receiver {
+            return Place::QueuedAt(r);
+        }
+        if p == 128 {
+            return Place::OnTimer;
+        }
+        Place::Nowhere(p)
     }
 
     // The byte that is stored for it.
@@ -43,6 +47,7 @@ impl Place {
             Place::Free => 0,
             Place::HeldBy(k) => (k.number() % 256) as u8,
             Place::QueuedAt(r) => ((64 + r.number() as u32) % 256) as u8,
+            Place::OnTimer => 128,
             Place::Nowhere(p) => p,
         }
     }
@@ -55,6 +60,7 @@ impl Place {
             Place::Free => false,
             Place::HeldBy(k) => k.number() == c.number(),
             Place::QueuedAt(_) => false,
+            Place::OnTimer => false,
             Place::Nowhere(_) => false,
         }
     }

@@ -84,21 +84,21 @@ module _ (z : Size) (b : Board) (q : List ℕ) (f : ℕ → List ℕ) (h : kept.
       let n = placed-numbered b m (λ d. true≢false (sym (ap isFree (sym e ∙ d)))) in
       subst (PlaceGood z b m) e (h .regular .places m (rw (h .fits .places) at n)))
 
-  lowest-place : (g : Whose → Bool) (t : Place → Bool) → ((m : ℕ) → g (whoseOf (place b m)) ≡ t (place b m))
+  given-place : (g : Whose → Bool) (t : Place → Bool) → ((m : ℕ) → g (whoseOf (place b m)) ≡ t (place b m))
       → lowestFrom (λ m. g (whoseOf (place b m))) 1 (z .messages) ≡ firstOf (which t 1 (b .places))
-  lowest-place g t e =
+  given-place g t e =
       ap (lowestFrom (λ m. g (whoseOf (place b m))) 1) (sym (h .fits .places))
       ∙ which-lowest Free t (λ m. g (whoseOf (place b m))) 1 (b .places)
       (λ i j d. let u : j ≡ suc i = omega arith in ap (λ (m : ℕ). g (whoseOf (place b m))) u ∙ e (suc i))
 
   -- which is free
   pub asked-free : (l s : List Entry) (n : ℕ) → plain.lowestFree z (plainOf b l s n) ≡ lowestFree b
-  asked-free l s n = lowest-place plain.isFree isFree (λ m. free-alike (place b m) (is-where m))
+  asked-free l s n = given-place plain.isFree isFree (λ m. free-alike (place b m) (is-where m))
 
   -- whether task k holds one
   pub asked-holds : (l s : List Entry) (n k : ℕ) → plain.holdsOne z (plainOf b l s n) k ≡ holdsOne b k
   asked-holds l s n k =
-      ap (λ (m : ℕ). not (eqb m 0)) (lowest-place (plain.isHeld k) (isHeldBy k) (λ m. held-alike k (place b m)))
+      ap (λ (m : ℕ). not (eqb m 0)) (given-place (plain.isHeld k) (isHeldBy k) (λ m. held-alike k (place b m)))
 
 -- ---- a board that is settled and its machine
 module _ (z : Size) (b : Board) (q : List ℕ) (f : ℕ → List ℕ) (a : Sizes z) (h : kept.Settled z b q f)

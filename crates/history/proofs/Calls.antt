@@ -16,7 +16,7 @@ use Rattle.paper.specs.declared.call.Call.the-variants.{Send, SendAndWait, Rese
 use Rattle.paper.specs.declared.call.Call.the-variants.{Receive, ReceiveAndWait, CancelMessage, WaitForInterrupt}
 use Rattle.paper.specs.Changes.{takeFirst}
 use Rattle.paper.specs.Effects.{waits}
-use Rattle.paper.specs.Refusals.{Test, no3, no4, no5, no6, no7, no10, no14, ownRow, Go, lowest}
+use Rattle.paper.specs.Refusals.{Test, no3, no4, no5, no6, no7, no10, no14, ownRow, Go, given}
 use Rattle.paper.specs.Outcomes.{Undispatched, undispatched, body}
 use Rattle.linked.proofs.Running.{ready-says}
 use Rattle.kept.specs.Settled.{Settled, Awake}
@@ -39,9 +39,9 @@ use Rattle.history.proofs.Taken.{take-same, cancel-message-same}
 
 -- the refusals tests and the body d on a board come to what the row e does on its machine; q and f are the lists afterwards
 pub record Alike (z : Size) (tests : List Test) (d : Undispatched) (q : List ℕ) (f : ℕ → List ℕ) (e : Played) : Type 0 where
-  pub verdict : lowest (e .refusals) ≡ lowest tests
-  pub value : lowest tests ≡ Go → d .value ≡ e .value
-  pub same : lowest tests ≡ Go → Same z (d .board) q f (e .plain)
+  pub verdict : given (e .refusals) ≡ given tests
+  pub value : given tests ≡ Go → d .value ≡ e .value
+  pub same : given tests ≡ Go → Same z (d .board) q f (e .plain)
 
 -- so it is with a call of task c on a board that lists q and f before it
 abbrev pub CallAlike : Size → Board → List ℕ → (ℕ → List ℕ) → ℕ → Call → Played → Type 0
@@ -51,12 +51,12 @@ CallAlike z b q f c call e =
 
 -- ---- one test before others
 -- what follows it is asked where it does not apply
-lowest-then : (t : Test) (l k : List Test) → (t .applies ≡ false → lowest l ≡ lowest k) → lowest (t ∷ l) ≡ lowest (t ∷ k)
-lowest-then t l k h = step (t .applies) refl
+given-then : (t : Test) (l k : List Test) → (t .applies ≡ false → given l ≡ given k) → given (t ∷ l) ≡ given (t ∷ k)
+given-then t l k h = step (t .applies) refl
   where
-    step : (a : Bool) → t .applies ≡ a → lowest (t ∷ l) ≡ lowest (t ∷ k)
-    step true e = rw (e, lowest)
-    step false e = rw (e, lowest) (h e)
+    step : (a : Bool) → t .applies ≡ a → given (t ∷ l) ≡ given (t ∷ k)
+    step true e = rw (e, given)
+    step false e = rw (e, given) (h e)
 
 -- ---- a wait
 -- on any board that is settled
@@ -68,7 +68,7 @@ waits-after z b q f p a h c d t =
 
 -- after a call whose row passes 3
 and-waits : (z : Size) (b : Board) (q : List ℕ) (f : ℕ → List ℕ) (c : ℕ) (tests : List Test) (e : Played) → Sizes z
-    → (lowest tests ≡ Go → Settled z b q f × Numbered (z .tasks) c) → Alike z tests (undispatched 0 b) q f e
+    → (given tests ≡ Go → Settled z b q f × Numbered (z .tasks) c) → Alike z tests (undispatched 0 b) q f e
     → Alike z tests (undispatched 0 (waits c b)) q f (plain.andWaits c e)
 and-waits z b q f c tests e a h t = record {
   verdict = t .verdict;
@@ -87,11 +87,11 @@ module _ (z : Size) (b : Board) (q : List ℕ) (f : ℕ → List ℕ) (a : Sizes
   runner-numbered e = task-numbered z b q f h c (ready-says b c (awake e) .0)
 
   -- 3 alone
-  runner-alone : lowest (no3 c ∷ []) ≡ Go → Numbered (z .tasks) c
+  runner-alone : given (no3 c ∷ []) ≡ Go → Numbered (z .tasks) c
   runner-alone g = runner-numbered (runner-passed c (go-passed (no3 c) [] g .0))
 
   -- 3 to 6: it holds the message, and the task meant is one of the board's
-  sender-row : (m r : ℕ) (tests : List Test) → lowest (no3 c ∷ no4 z m ∷ no5 b c m ∷ no6 z b r ∷ tests) ≡ Go
+  sender-row : (m r : ℕ) (tests : List Test) → given (no3 c ∷ no4 z m ∷ no5 b c m ∷ no6 z b r ∷ tests) ≡ Go
       → (place b m ≡ HeldBy (taskNo c)) × Numbered (z .tasks) r × Numbered (z .tasks) c
   sender-row m r tests g =
       let (runs, held, there, rest) = sender-passed z b c m r tests g in
@@ -124,10 +124,10 @@ module _ (z : Size) (b : Board) (q : List ℕ) (f : ℕ → List ℕ) (a : Sizes
 
   -- ---- a task cancelled
   -- where 6 has passed, 10 is the same on the board and on the machine
-  busy-row : (k : ℕ) → lowest (plain.play z p c (CancelTask k) .refusals) ≡ lowest (ownRow z b c (CancelTask k))
+  busy-row : (k : ℕ) → given (plain.play z p c (CancelTask k) .refusals) ≡ given (ownRow z b c (CancelTask k))
   busy-row k =
-      lowest-then (no3 c) (no6 z b k ∷ plain.no10 z p k ∷ []) (no6 z b k ∷ no10 b k ∷ []) (λ e.
-      lowest-then (no6 z b k) (plain.no10 z p k ∷ []) (no10 b k ∷ []) (λ u.
+      given-then (no3 c) (no6 z b k ∷ plain.no10 z p k ∷ []) (no6 z b k ∷ no10 b k ∷ []) (λ e.
+      given-then (no6 z b k) (plain.no10 z p k ∷ []) (no10 b k ∷ []) (λ u.
       rw (first-mptr z b q f a h l s n w k (task-passed z b k u .0), asked-holds z b q f h l s n k)))
 
   -- ---- each call

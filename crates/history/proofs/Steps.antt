@@ -11,7 +11,7 @@ use Rattle.board.specs.Claims.{Bytes}
 use Rattle.paper.specs.declared.call.Call.{Call}
 use Rattle.paper.specs.Rules.{passes}
 use Rattle.paper.proofs.Rows.{row-own}
-use Rattle.paper.specs.Refusals.{ownRow, Verdict, Go, Stop, lowest}
+use Rattle.paper.specs.Refusals.{ownRow, Verdict, Go, Stop, given}
 use Rattle.paper.specs.Outcomes as paper
 use Rattle.linked.specs.Sound.{Sound}
 use Rattle.kept.specs.Settled.{Settled, Awake, Fitting}
@@ -86,7 +86,7 @@ module _ (z : Size) (a : Sizes z) (bytes : List ℕ) (call : Call) (fits : Fitti
   alike = calls-alike z b q f a h l s n w c awake call
 
   -- the body, and then dispatch
-  went : lowest (ownRow z b c call) ≡ Go → Ended z (paper.dispatch z bytes d) (plain.dispatch p e)
+  went : given (ownRow z b c call) ≡ Go → Ended z (paper.dispatch z bytes d) (plain.dispatch p e)
   went g =
       let k = body-settles z b q f c call a fits h awake (good .idle) g in
       let to : ℕ → Plain → Type 0 = λ v x. Dispatched z (paper.dispatch z bytes d) (plain.dispatch p (plain.played (e .refusals) v x)) in
@@ -95,7 +95,7 @@ module _ (z : Size) (a : Sizes z) (bytes : List ℕ) (call : Call) (fits : Fitti
       (λ l s n w. dispatch-alike z (d .board) _ _ a k l s n w bytes p (e .refusals) (d .value))))
 
   -- whatever its row gives
-  judged-ends : (v : Verdict) → lowest (ownRow z b c call) ≡ v
+  judged-ends : (v : Verdict) → given (ownRow z b c call) ≡ v
       → Ended z (paper.judge bytes v (paper.dispatch z bytes d)) (plain.judged p v (plain.dispatch p e))
   judged-ends Go g = went g
   judged-ends (Stop r) g = record {
@@ -107,15 +107,15 @@ module _ (z : Size) (a : Sizes z) (bytes : List ℕ) (call : Call) (fits : Fitti
   }
 
   -- the machine finds the same refusals
-  step-judged : plain.judged p (lowest (ownRow z b c call)) (plain.dispatch p e) ≡ plain.step z p call
+  step-judged : plain.judged p (given (ownRow z b c call)) (plain.dispatch p e) ≡ plain.step z p call
   step-judged = ap (λ (v : Verdict). plain.judged p v (plain.dispatch p e)) (sym (alike .verdict))
 
   effect-ends : Ended z (paper.effect z bytes call) (plain.step z (plainOf (boardOf z bytes) l s n) call)
   effect-ends =
       subst (λ (r : Result). Ended z (paper.effect z bytes call) r) step-judged
       (subst (λ (v : Verdict). Ended z (paper.judge bytes v (paper.dispatch z bytes d))
-      (plain.judged p (lowest (ownRow z b c call)) (plain.dispatch p e))) (sym (row-own z bytes b c call long sound))
-      (judged-ends (lowest (ownRow z b c call)) refl))
+      (plain.judged p (given (ownRow z b c call)) (plain.dispatch p e))) (sym (row-own z bytes b c call long sound))
+      (judged-ends (given (ownRow z b c call)) refl))
 
 -- bytes and machine that agree give one answer to a call that fits, and agree afterwards
 pub call-agrees : (z : Size) → Sizes z → (l : List ℕ) (p : Plain) (call : Call) → Fitting call → Agreeing z l p

@@ -22,7 +22,7 @@ use Rattle.paper.specs.declared.answer.Refusal.{Refusal}
 use Rattle.paper.specs.declared.answer.Refusal.the-variants.{NotHeld, NoSuchTask, BadPriority, NotInstallable, TaskBusy, NoneFree, NotQueued, NotItsSender, NothingToDeliver}
 use Rattle.paper.specs.declared.answer.Answer.{Answer}
 use Rattle.paper.specs.declared.answer.Answer.the-variants.{Accepted, Refused}
-use Rattle.paper.specs.Refusals.{Test, test, no3, no4, no7Install, no9, no14, Verdict, Go, Stop, lowest}
+use Rattle.paper.specs.Refusals.{Test, test, no3, no4, no7Install, no9, no14, Verdict, Go, Stop, given}
 use Rattle.history.specs.Ranking.{Entry, foremost, keep}
 
 -- ---- what it keeps
@@ -299,4 +299,4 @@ judged p Go o = o
 judged p (Stop q) o = refused p q
 
 abbrev pub step : Size → Plain → Call → Result
-step z p call = let d = play z p (p .running) call in judged p (lowest (d .refusals)) (dispatch p d)
+step z p call = let d = play z p (p .running) call in judged p (given (d .refusals)) (dispatch p d)

@@ -18,10 +18,10 @@ use Rattle.board.specs.Board.{Board, boardOf, task, place}
 use Rattle.board.proofs.Meant.{taskMeant-task, taskMeant-none, messageMeant-message, messageMeant-none}
 use Rattle.paper.specs.declared.answer.Refusal.the-variants.{NobodyRuns, NoSuchMessage, NotHeld}
 use Rattle.paper.specs.Rules.{present, isThere}
-use Rattle.paper.specs.Refusals.{no3, no4, no5, Verdict, lowest}
+use Rattle.paper.specs.Refusals.{no3, no4, no5, Verdict, given}
 use Rattle.stores.specs.declared.Held.the-variants as held
 use Rattle.stores.specs.Answers.{Runner, heldBy, heldOf, presentMeant}
-use Rattle.paper.proofs.Rows.{lowest-stop, lowest-on}
+use Rattle.paper.proofs.Rows.{given-stop, given-on}
 use Rattle.inner.proofs.Rows.{nobody-runs, one-runs}
 
 -- ---- the running task and its message: x is who runs
@@ -34,20 +34,20 @@ module _ (z : Size) (l : List ℕ) (w : ℕ) {x : TaskMeant} (d : Runner z l x) 
 
   -- 3: nobody
   pub held-nobody : x ≡ NoTask → held.Not NobodyRuns ≡ heldOf z b c w
-  held-nobody e = ap (λ (v : Verdict). heldBy v c w) (sym (lowest-stop (no3 c) (no4 z w ∷ no5 b c w ∷ []) (nobody-runs z l d e)))
+  held-nobody e = ap (λ (v : Verdict). heldBy v c w) (sym (given-stop (no3 c) (no4 z w ∷ no5 b c w ∷ []) (nobody-runs z l d e)))
 
   -- k does, and y is the message that w means
   module _ {k : TaskNo} (e : x ≡ Task k) {y : MessageMeant} (f : y ≡ messageMeant z w) where
     runner : (no3 c .applies ≡ false) × (k ≡ taskNo c)
     runner = one-runs z l d e
 
-    runs : lowest (no3 c ∷ no4 z w ∷ no5 b c w ∷ []) ≡ lowest (no4 z w ∷ no5 b c w ∷ [])
-    runs = lowest-on (no3 c) (no4 z w ∷ no5 b c w ∷ []) (runner .0)
+    runs : given (no3 c ∷ no4 z w ∷ no5 b c w ∷ []) ≡ given (no4 z w ∷ no5 b c w ∷ [])
+    runs = given-on (no3 c) (no4 z w ∷ no5 b c w ∷ []) (runner .0)
 
     -- 4: none
     pub held-no-message : y ≡ NoMessage → held.Not NoSuchMessage ≡ heldOf z b c w
     held-no-message g =
-        ap (λ (v : Verdict). heldBy v c w) (sym (runs ∙ lowest-stop (no4 z w) (no5 b c w ∷ []) (messageMeant-none z w (sym f ∙ g))))
+        ap (λ (v : Verdict). heldBy v c w) (sym (runs ∙ given-stop (no4 z w) (no5 b c w ∷ []) (messageMeant-none z w (sym f ∙ g))))
 
     -- it is m, p its place, and t the test of that
     module _ {m : MsgNo} (g : y ≡ Message m) {p : Place} (i : p ≡ place b (m .0)) {t : Bool} (h : t ≡ isHeldBy (k .0) p) where
@@ -57,18 +57,18 @@ module _ (z : Size) (l : List ℕ) (w : ℕ) {x : TaskMeant} (d : Runner z l x) 
       tested : t ≡ isHeldBy c (place b w)
       tested = h ∙ ap (isHeldBy (k .0)) i ∙ (λ a. isHeldBy (runner .1 a .0) (place b (block .1 a .0)))
 
-      found : lowest (no3 c ∷ no4 z w ∷ no5 b c w ∷ []) ≡ lowest (no5 b c w ∷ [])
-      found = runs ∙ lowest-on (no4 z w) (no5 b c w ∷ []) (block .0)
+      found : given (no3 c ∷ no4 z w ∷ no5 b c w ∷ []) ≡ given (no5 b c w ∷ [])
+      found = runs ∙ given-on (no4 z w) (no5 b c w ∷ []) (block .0)
 
       -- c holds it
       pub held-yes : t ≡ true → held.By k m ≡ heldOf z b c w
       held-yes q =
           (λ a. held.By (runner .1 a) (block .1 a))
-          ∙ ap (λ (v : Verdict). heldBy v c w) (sym (found ∙ lowest-on (no5 b c w) [] (ap not (sym tested ∙ q))))
+          ∙ ap (λ (v : Verdict). heldBy v c w) (sym (found ∙ given-on (no5 b c w) [] (ap not (sym tested ∙ q))))
 
       -- 5: it doesn't
       pub held-not : t ≡ false → held.Not NotHeld ≡ heldOf z b c w
-      held-not q = ap (λ (v : Verdict). heldBy v c w) (sym (found ∙ lowest-stop (no5 b c w) [] (ap not (sym tested ∙ q))))
+      held-not q = ap (λ (v : Verdict). heldBy v c w) (sym (found ∙ given-stop (no5 b c w) [] (ap not (sym tested ∙ q))))
 
 -- ---- a task that is present
 module _ (z : Size) (l : List ℕ) (w : ℕ) {x : TaskMeant} (e : x ≡ taskMeant z w) where

@@ -16,7 +16,7 @@ use Rattle.board.proofs.Pieces.{outside-within}
 use Rattle.board.proofs.Meant.{taskMeant-task}
 use Rattle.paper.specs.declared.answer.Refusal.{Refusal}
 use Rattle.paper.specs.Rules.{present}
-use Rattle.paper.specs.Refusals.{Test, no3, no4, no5, no6, Verdict, Go, Stop, lowest}
+use Rattle.paper.specs.Refusals.{Test, no3, no4, no5, no6, Verdict, Go, Stop, given}
 use Rattle.stores.specs.declared.Held.the-variants as held
 use Rattle.stores.specs.Answers.{Runner, heldBy, heldOf, presentMeant}
 
@@ -25,12 +25,12 @@ abbrev orElse : Verdict → Verdict → Verdict
 orElse Go v = v
 orElse (Stop q) v = Stop q
 
-lowest-append : (a b : List Test) → lowest (a ++ b) ≡ orElse (lowest a) (lowest b)
-lowest-append [] b = refl
-lowest-append (t ∷ a) b = go (t .applies) (lowest-append a b)
+given-append : (a b : List Test) → given (a ++ b) ≡ orElse (given a) (given b)
+given-append [] b = refl
+given-append (t ∷ a) b = go (t .applies) (given-append a b)
   where
-    go : (s : Bool) → lowest (a ++ b) ≡ orElse (lowest a) (lowest b)
-        → elim s [ true ↦ Stop (t .refusal) | false ↦ lowest (a ++ b) ] ≡ orElse (elim s [ true ↦ Stop (t .refusal) | false ↦ lowest a ]) (lowest b)
+    go : (s : Bool) → given (a ++ b) ≡ orElse (given a) (given b)
+        → elim s [ true ↦ Stop (t .refusal) | false ↦ given (a ++ b) ] ≡ orElse (elim s [ true ↦ Stop (t .refusal) | false ↦ given a ]) (given b)
     go true e = refl
     go false e = e
 
@@ -50,24 +50,24 @@ one-runs z l r {c = c} e =
 -- ---- the message that is held
 -- it is: 3, 4 and 5 are passed
 pub held-row : (z : Size) (b : Board) (c w : ℕ) (k : TaskNo) (m : MsgNo) (tests : List Test) → heldOf z b c w ≡ held.By k m
-    → (lowest (no3 c ∷ no4 z w ∷ no5 b c w ∷ tests) ≡ lowest tests) × (k ≡ taskNo c) × (m ≡ record { 0 = w })
-held-row z b c w k m tests e = go (lowest (no3 c ∷ no4 z w ∷ no5 b c w ∷ [])) refl e
+    → (given (no3 c ∷ no4 z w ∷ no5 b c w ∷ tests) ≡ given tests) × (k ≡ taskNo c) × (m ≡ record { 0 = w })
+held-row z b c w k m tests e = go (given (no3 c ∷ no4 z w ∷ no5 b c w ∷ [])) refl e
   where
-    go : (v : Verdict) → lowest (no3 c ∷ no4 z w ∷ no5 b c w ∷ []) ≡ v → heldBy v c w ≡ held.By k m
-        → (lowest (no3 c ∷ no4 z w ∷ no5 b c w ∷ tests) ≡ lowest tests) × (k ≡ taskNo c) × (m ≡ record { 0 = w })
-    go Go p q = (lowest-append (no3 c ∷ no4 z w ∷ no5 b c w ∷ []) tests ∙ ap (λ (v : Verdict). orElse v (lowest tests)) p, cc, cc)
+    go : (v : Verdict) → given (no3 c ∷ no4 z w ∷ no5 b c w ∷ []) ≡ v → heldBy v c w ≡ held.By k m
+        → (given (no3 c ∷ no4 z w ∷ no5 b c w ∷ tests) ≡ given tests) × (k ≡ taskNo c) × (m ≡ record { 0 = w })
+    go Go p q = (given-append (no3 c ∷ no4 z w ∷ no5 b c w ∷ []) tests ∙ ap (λ (v : Verdict). orElse v (given tests)) p, cc, cc)
     go (Stop r) p q = absurd (let y : _≡_ {A = ℕ} 0 1 = cc in omega arith)
 
 -- it is not: one of them stops
 pub not-held-row : (z : Size) (b : Board) (c w : ℕ) (q : Refusal) (tests : List Test) → heldOf z b c w ≡ held.Not q
-    → lowest (no3 c ∷ no4 z w ∷ no5 b c w ∷ tests) ≡ Stop q
-not-held-row z b c w q tests e = go (lowest (no3 c ∷ no4 z w ∷ no5 b c w ∷ [])) refl e
+    → given (no3 c ∷ no4 z w ∷ no5 b c w ∷ tests) ≡ Stop q
+not-held-row z b c w q tests e = go (given (no3 c ∷ no4 z w ∷ no5 b c w ∷ [])) refl e
   where
-    go : (v : Verdict) → lowest (no3 c ∷ no4 z w ∷ no5 b c w ∷ []) ≡ v → heldBy v c w ≡ held.Not q
-        → lowest (no3 c ∷ no4 z w ∷ no5 b c w ∷ tests) ≡ Stop q
+    go : (v : Verdict) → given (no3 c ∷ no4 z w ∷ no5 b c w ∷ []) ≡ v → heldBy v c w ≡ held.Not q
+        → given (no3 c ∷ no4 z w ∷ no5 b c w ∷ tests) ≡ Stop q
     go Go p r = absurd (let y : _≡_ {A = ℕ} 0 1 = cc in omega arith)
     go (Stop s) p r =
-        lowest-append (no3 c ∷ no4 z w ∷ no5 b c w ∷ []) tests ∙ ap (λ (v : Verdict). orElse v (lowest tests)) p
+        given-append (no3 c ∷ no4 z w ∷ no5 b c w ∷ []) tests ∙ ap (λ (v : Verdict). orElse v (given tests)) p
         ∙ ap Stop (let x : s ≡ q = cc in x)
 
 -- ---- the task that is meant

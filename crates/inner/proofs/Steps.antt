@@ -14,14 +14,14 @@ use Rattle.paper.specs.declared.call.Call.{Call}
 use Rattle.paper.specs.declared.answer.Answer.{Answer}
 use Rattle.paper.specs.declared.answer.Refusal.{Refusal}
 use Rattle.paper.specs.declared.answer.Refusal.the-variants.{NobodyRuns}
-use Rattle.paper.specs.Refusals.{Test, no3, no4, no5, Verdict, Go, Stop, ownRow, lowest}
+use Rattle.paper.specs.Refusals.{Test, no3, no4, no5, Verdict, Go, Stop, ownRow, given}
 use Rattle.stores.specs.declared.Held.{Held}
 use Rattle.stores.specs.declared.Held.the-variants as held
 use Rattle.stores.specs.declared.Body.the-variants.{Done, Stopped}
 use Rattle.stores.specs.Answers.{Runner, heldOf, Stored, Makes, replyBy}
 use Rattle.stores.specs.Calls.{body, verdict, stepping}
 use Rattle.paper.specs.Outcomes.{Outcome, Ends}
-use Rattle.paper.proofs.Rows.{lowest-stop, lowest-on}
+use Rattle.paper.proofs.Rows.{given-stop, given-on}
 use Rattle.inner.proofs.Rows.{nobody-runs, one-runs, held-row, not-held-row}
 
 -- an outcome ends as it says
@@ -62,20 +62,20 @@ module _ (z : Size) (l : List ℕ) (call : Call) where
   module _ (tests : List Test) (row : ownRow z b c call ≡ no3 c ∷ tests) {x : TaskMeant} (found : Runner z l x) where
     -- nobody runs
     pub nobody-stops : {d : List ℕ} → x ≡ NoTask → d ≡ l → Makes (Stopped NobodyRuns) d (stepping z l call)
-    nobody-stops e = stops (ap lowest row ∙ lowest-stop (no3 c) tests (nobody-runs z l found e))
+    nobody-stops e = stops (ap given row ∙ given-stop (no3 c) tests (nobody-runs z l found e))
 
     -- one does: the rest of the row decides
-    pub one-goes : {k : TaskNo} → x ≡ Task k → (verdict z l call ≡ lowest tests) × (k ≡ taskNo c)
-    one-goes {k = k} e = let r = one-runs z l found e in (ap lowest row ∙ lowest-on (no3 c) tests (r .0), r .1)
+    pub one-goes : {k : TaskNo} → x ≡ Task k → (verdict z l call ≡ given tests) × (k ≡ taskNo c)
+    one-goes {k = k} e = let r = one-runs z l found e in (ap given row ∙ given-on (no3 c) tests (r .0), r .1)
 
   -- ---- a row that opens with 3, 4 and 5: h is what is held
   module _ (w : ℕ) (tests : List Test) (row : ownRow z b c call ≡ no3 c ∷ no4 z w ∷ no5 b c w ∷ tests) {h : Held}
       (found : h ≡ heldOf z b c w) where
     -- it is not: the call stops there
     pub not-held-stops : {q : Refusal} {d : List ℕ} → h ≡ held.Not q → d ≡ l → Makes (Stopped q) d (stepping z l call)
-    not-held-stops {q = q} e = stops (ap lowest row ∙ not-held-row z b c w q tests (sym found ∙ e))
+    not-held-stops {q = q} e = stops (ap given row ∙ not-held-row z b c w q tests (sym found ∙ e))
 
     -- it is: the rest of the row decides
     pub held-goes : {k : TaskNo} {m : MsgNo} → h ≡ held.By k m
-        → (verdict z l call ≡ lowest tests) × (k ≡ taskNo c) × (m ≡ record { 0 = w })
-    held-goes {k = k} {m = m} e = let r = held-row z b c w k m tests (sym found ∙ e) in (ap lowest row ∙ r .0, r .1, r .2)
+        → (verdict z l call ≡ given tests) × (k ≡ taskNo c) × (m ≡ record { 0 = w })
+    held-goes {k = k} {m = m} e = let r = held-row z b c w k m tests (sym found ∙ e) in (ap given row ∙ r .0, r .1, r .2)

@@ -19,7 +19,7 @@ use Rattle.stores.specs.Changes.{sets, clears}
 use Rattle.stores.specs.Effects.{post, waitInterrupt}
 use Rattle.stores.specs.Answers.{Runner, presentMeant, Makes}
 use Rattle.stores.specs.Calls.{stepping}
-use Rattle.paper.proofs.Rows.{lowest-stop, lowest-on}
+use Rattle.paper.proofs.Rows.{given-stop, given-on}
 use Rattle.inner.proofs.Rows.{nobody-runs, one-runs, task-row, no-task-row}
 use Rattle.inner.proofs.Steps.{stops, does}
 
@@ -33,7 +33,7 @@ module _ (z : Size) (l : List ℕ) (k : ℕ) {m : TaskMeant} (d : m ≡ presentM
   -- 6: no task
   pub post-no-task : m ≡ means.NoTask → Makes (Stopped NoSuchTask) l (stepping z l (PostInterrupt k))
   post-no-task e =
-      stops z l (PostInterrupt k) (lowest-stop (no6 z (boardOf z l) k) [] (no-task-row z (boardOf z l) k (sym d ∙ e))) refl
+      stops z l (PostInterrupt k) (given-stop (no6 z (boardOf z l) k) [] (no-task-row z (boardOf z l) k (sym d ∙ e))) refl
 
   -- task n, of record t, and u is the test that it waits for an interrupt
   module _ {n : TaskNo} (e : m ≡ means.Task n) {t : Task} (s : t ≡ task (boardOf z l) (n .0))
@@ -41,7 +41,7 @@ module _ (z : Size) (l : List ℕ) (k : ℕ) {m : TaskMeant} (d : m ≡ presentM
     posts : {after : List ℕ} → after ≡ postBy z l (n .0) u → Makes (Done 0 (means.Task n)) after (stepping z l (PostInterrupt k))
     posts a =
         let r = task-row z (boardOf z l) k n (sym d ∙ e) in
-        does z l (PostInterrupt k) (lowest-on (no6 z (boardOf z l) k) [] (r .0)) refl (ap means.Task (r .1))
+        does z l (PostInterrupt k) (given-on (no6 z (boardOf z l) k) [] (r .0)) refl (ap means.Task (r .1))
         (a ∙ ap (postBy z l (n .0)) (i ∙ ap (λ (x : Task). has (x .stat) IWAT) s) ∙ ap (λ (x : TaskNo). post z l (x .0)) (r .1))
 
     -- it does: no longer
@@ -63,7 +63,7 @@ waitBy z l c t = cond t (clears z l c INTQ) (sets z l c IWAT)
 module _ (z : Size) (l : List ℕ) {m : TaskMeant} (d : Runner z l m) where
   -- 3: nobody
   pub wait-nobody : m ≡ means.NoTask → Makes (Stopped NobodyRuns) l (stepping z l WaitForInterrupt)
-  wait-nobody e = stops z l WaitForInterrupt (lowest-stop (no3 (boardOf z l .running)) [] (nobody-runs z l d e)) refl
+  wait-nobody e = stops z l WaitForInterrupt (given-stop (no3 (boardOf z l .running)) [] (nobody-runs z l d e)) refl
 
   -- task n, of record t, and u is the test that an interrupt is queued for it
   module _ {n : TaskNo} (e : m ≡ means.Task n) {t : Task} (s : t ≡ task (boardOf z l) (n .0))
@@ -71,7 +71,7 @@ module _ (z : Size) (l : List ℕ) {m : TaskMeant} (d : Runner z l m) where
     waits : {after : List ℕ} → after ≡ waitBy z l (n .0) u → Makes (Done 0 means.NoTask) after (stepping z l WaitForInterrupt)
     waits a =
         let r = one-runs z l d e in
-        does z l WaitForInterrupt (lowest-on (no3 (boardOf z l .running)) [] (r .0)) refl refl
+        does z l WaitForInterrupt (given-on (no3 (boardOf z l .running)) [] (r .0)) refl refl
         (a ∙ ap (waitBy z l (n .0)) (i ∙ ap (λ (x : Task). has (x .stat) INTQ) s)
         ∙ ap (λ (x : TaskNo). waitInterrupt z l (x .0)) (r .1))
 

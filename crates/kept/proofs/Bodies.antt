@@ -17,7 +17,7 @@ use Rattle.paper.specs.declared.call.Call.the-variants.{SendAndWait, Resend, Re
 use Rattle.paper.specs.declared.call.Call.the-variants.{Receive, ReceiveAndWait, CancelMessage, WaitForInterrupt}
 use Rattle.paper.specs.Changes.{takeFirst}
 use Rattle.paper.specs.Effects.{waits, cancelMessage, cancelTask, post, waitInterrupt, claim, release, prepare}
-use Rattle.paper.specs.Refusals.{ownRow, Go, lowest}
+use Rattle.paper.specs.Refusals.{ownRow, Go, given}
 use Rattle.paper.specs.Outcomes.{body}
 use Rattle.bare.proofs.Bits.{iwat}
 use Rattle.bare.proofs.Reading.{has-bare, present-bare, emptyQueue-bare, queue-bare, find-bare}
@@ -49,7 +49,7 @@ module _ (z : Size) (b : Board) (c : ℕ) (q : List ℕ) (f : ℕ → List ℕ) 
   -- where no refusal of its row applies, the body leaves R1 to R6, with the lists that its move says
   abbrev Settles : Call → Type 0
   Settles call =
-      Sizes z → Fitting call → Settled z b q f → Awake b c → has (task b c .stat) MHBS ≡ false → lowest (ownRow z b c call) ≡ Go
+      Sizes z → Fitting call → Settled z b q f → Awake b c → has (task b c .stat) MHBS ≡ false → given (ownRow z b c call) ≡ Go
       → let move = touched b c call .move in Settled z (body z b c call .board) (orderAfter b q move) (queuesAfter b f move)
 
   -- each call: what it changes at all, what it leaves where DEBUG and MROB are cleared before, and that

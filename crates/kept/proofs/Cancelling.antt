@@ -1,37 +1,38 @@
 -- Cancel task: no message is held by the task or queued at it, so nothing is lost with its record.
 -- Assumes nothing.
 use mathlib.Core.Path.{_≡_, refl, sym, ap, _∙_, subst}
-use mathlib.Core.Logic.{_≢_, _⊎_, inl, inr, _↔_}
-use mathlib.Core.Bool.{true, false, not, _||_, true≢false}
+use mathlib.Core.Logic.{_≢_, inl, inr, _↔_}
+use mathlib.Core.Bool.{true, false, not, _&&_, _||_, true≢false}
 use mathlib.Core.List.{List, [], _∷_}
 use Prim.Native.Nat.{ℕ}
-use lib.Dec.{lit<}
-use borrow.Author.Tests.{eqb-true, eq-eqb, not-false}
+use lib.Dec.{lit<, eqb}
+use borrow.Author.Tests.{eqb-true, eq-eqb, not-true, not-false}
 use Rattle.links.specs.Queue.{firstOf, without, relink}
 use Rattle.links.specs.Chain.{In, Out, Once, Sorted}
+use Rattle.links.proofs.Bools.{and-true, each-at}
 use Rattle.links.proofs.Chains.{chain-one, chain-once}
 use Rattle.links.proofs.Removal.{in-without, out-without, once-without, sorted-without}
 use Rattle.board.specs.declared.numbers.Size.{Size}
 use Rattle.board.specs.declared.records.Task.{Task}
-use Rattle.board.specs.declared.places.Place.the-variants.{Free, HeldBy, QueuedAt}
+use Rattle.board.specs.declared.places.Place.the-variants.{Free, HeldBy, QueuedAt, OnTimer}
 use Rattle.board.specs.Numbers.{taskNo, Numbered}
 use Rattle.board.specs.Status.{IWAT, has, number, stored}
 use Rattle.board.specs.Records.{noTask, taskWithLink}
-use Rattle.board.specs.Places.{isHeldBy}
-use Rattle.board.specs.Board.{Board, task, place, put, withFirst, withTasks, withTask}
+use Rattle.board.specs.Places.{isHeldBy, isOnTimer}
+use Rattle.board.specs.Board.{Board, task, message, place, put, withFirst, withTasks, withTask}
 use Rattle.board.proofs.Numbered.{put-comm}
 use Rattle.board.proofs.Pieces.{neither}
 use Rattle.paper.specs.declared.call.Call.the-variants.{CancelTask}
 use Rattle.paper.specs.Rules.{isThere, present, nextTask, nextMessage, emptyQueue, taskNumber}
 use Rattle.paper.specs.Changes.{linkTask, withOrder}
 use Rattle.paper.specs.Effects.{cancelTask}
-use Rattle.paper.specs.Refusals.{holdsOne, ownRow, Go, lowest}
+use Rattle.paper.specs.Refusals.{holdsOne, isAwaited, ownRow, Go, given}
 use Rattle.linked.proofs.Running.{present-numbered, which-none}
 use Rattle.kept.specs.Settled.{Settled}
 use Rattle.kept.specs.Touched.{OutOfOrder, orderAfter}
 use Rattle.kept.specs.Claims.{Sizes}
 use Rattle.kept.proofs.Reading.{task-put, task-other, sorted-stays}
-use Rattle.kept.proofs.Reading.{good-stays, order-walked, cancel-row}
+use Rattle.kept.proofs.Reading.{Needs, holder, receiver, sender, timed-numbered, good-stays, order-walked, cancel-row}
 use Rattle.kept.proofs.Flagging.{flags-ready}
 use Rattle.kept.proofs.Installing.{settled-order}
 
@@ -70,7 +71,15 @@ module _ (z : Size) (b : Board) (q : List ℕ) (queues : ℕ → List ℕ) (a : 
   none-held e m p =
       which-none Free (isHeldBy k) (b .places) refl (eqb-true _ 0 (not-false _ e)) m (ap (isHeldBy k) p ∙ eq-eqb k k refl)
 
-  module _ (here : present b k ≡ true) (empty : task b k .mptr ≡ 0) (free : (m : ℕ) → place b m ≢ HeldBy (taskNo k)) where
+  -- a task that isn't awaited is SPTR of no message on the timer
+  none-awaited : isAwaited z b k ≡ false → (m : ℕ) → place b m ≡ OnTimer → message b m .sptr ≢ k
+  none-awaited e m p h =
+      let n = timed-numbered z b (s .fits .places) m p in
+      let kept = each-at (λ m. not (isOnTimer (place b m) && eqb (message b m .sptr) k)) (z .messages) (not-false _ e) m (n .0) (n .1) in
+      true≢false (sym (and-true _ _ (ap isOnTimer p) (eq-eqb _ k h)) ∙ not-true _ kept)
+
+  module _ (here : present b k ≡ true) (empty : task b k .mptr ≡ 0) (free : (m : ℕ) → place b m ≢ HeldBy (taskNo k))
+      (alone : (m : ℕ) → place b m ≡ OnTimer → message b m .sptr ≢ k) where
     abbrev gone : Board
     gone = withTask b k noTask
 
@@ -97,13 +106,14 @@ module _ (z : Size) (b : Board) (q : List ℕ) (queues : ℕ → List ℕ) (a : 
         (λ y i. ap (λ (x : Task). number (x .prio)) (same-others y (in-without k y q once .0 i .1)))
         (sorted-without (taskNumber b) k q (s .regular .linked .tasks .sorted))
 
-    -- who has a message is another
-    another : (m j : ℕ) → (place b m ≡ HeldBy (taskNo j)) ⊎ (place b m ≡ QueuedAt (taskNo j)) → j ≢ k
-    another m j (inl p) e = free m (p ∙ ap (λ (x : ℕ). HeldBy (taskNo x)) e)
-    another m j (inr p) e =
+    -- whom a message needs is another
+    another : (m j : ℕ) → Needs (message b m) (place b m) j → j ≢ k
+    another m j (holder p) e = free m (p ∙ ap (λ (x : ℕ). HeldBy (taskNo x)) e)
+    another m j (receiver p) e =
         none-queued (rw (s .fits .tasks) at (present-numbered b k here)) empty m (p ∙ ap (λ (x : ℕ). QueuedAt (taskNo x)) e)
+    another m j (sender p h) e = alone m p (h ∙ e)
 
-    -- a task with an empty queue that holds no message goes
+    -- a task with an empty queue that holds no message and awaits none goes
     pub settled-cancel : Settled z (cancelTask z b k) (without k q) queues
     settled-cancel =
         subst (λ (l : List ℕ). Settled z (withTask (withOrder b (without k l)) k noTask) (without k q) queues)
@@ -117,11 +127,12 @@ module _ (z : Size) (b : Board) (q : List ℕ) (queues : ℕ → List ℕ) (a : 
         (once-without k q once) listed-exact listed-sorted))
 
   -- so its row has it
-  pub cancel-settled : (c : ℕ) → lowest (ownRow z b c (CancelTask k)) ≡ Go
+  pub cancel-settled : (c : ℕ) → given (ownRow z b c (CancelTask k)) ≡ Go
       → Settled z (cancelTask z b k) (orderAfter b q (OutOfOrder k)) queues
   cancel-settled c g =
       let (n, there, idle) = cancel-row z b c k g in
-      let parked = neither (not (emptyQueue b k) || holdsOne b k) (has (task b k .stat) IWAT) idle in
+      let timed = neither (not (emptyQueue b k) || holdsOne b k || has (task b k .stat) IWAT) (isAwaited z b k) idle in
+      let parked = neither (not (emptyQueue b k) || holdsOne b k) (has (task b k .stat) IWAT) (timed .0) in
       let none = neither (not (emptyQueue b k)) (holdsOne b k) (parked .0) in
       settled-cancel there (eqb-true (task b k .mptr) 0 (not-false (emptyQueue b k) (none .0)))
-      (none-held (none .1))
+      (none-held (none .1)) (none-awaited (timed .1))

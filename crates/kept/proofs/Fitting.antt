@@ -200,7 +200,7 @@ place-byte z p =
     let P : Place → Type 0 = λ x. placeByte x ≡ p in
     cond-holds P (eqb p 0) _ _ (λ e. sym (eqb-true p 0 e))
     (λ e. cond-holds P (outside (z .tasks) p) _ _
-    (λ o. cond-holds P (outside (z .tasks) (p - 64)) _ _ (λ h. refl)
+    (λ o. cond-holds P (outside (z .tasks) (p - 64)) _ _ (λ h. cond-holds P (eqb p 128) _ _ (λ t. sym (eqb-true p 128 t)) (λ t. refl))
     (λ h. omega (arith, outside-within (z .tasks) (p - 64) h .0))) (λ o. refl))
 
 fits-placeOf : (z : Size) (p : ℕ) → Byte p → FitsPlace z (placeOf z p)

@@ -22,7 +22,7 @@ use Rattle.paper.specs.declared.call.Call.the-variants.{PostInterrupt, WaitForI
 use Rattle.paper.specs.Rules.{isThere, present, nextTask, nextMessage, taskNumber, messageNumber}
 use Rattle.paper.specs.Changes.{sets, clears}
 use Rattle.paper.specs.Effects.{post, waitInterrupt}
-use Rattle.paper.specs.Refusals.{no3, no6, ownRow, Go, lowest}
+use Rattle.paper.specs.Refusals.{no3, no6, ownRow, Go, given}
 use Rattle.linked.specs.Sound.{Proper, Regular, Flags}
 use Rattle.linked.proofs.Running.{present-numbered, ready-says}
 use Rattle.kept.specs.Settled.{FitsTask, Fits, Settled, Awake}
@@ -236,7 +236,7 @@ module _ (z : Size) (b : Board) (order : List ℕ) (queues : ℕ → List ℕ) (
       (λ e. settled-sets z b order queues k INTQ p apart-INTQ h (flags-posted (task b k .stat) _ f e))
 
   -- so its row has it
-  pub post-settled : (c k : ℕ) → lowest (ownRow z b c (PostInterrupt k)) ≡ Go → Settled z (post b k) order queues
+  pub post-settled : (c k : ℕ) → given (ownRow z b c (PostInterrupt k)) ≡ Go → Settled z (post b k) order queues
   post-settled c k g = settled-post k (task-passed z b k (go-passed (no6 z b k) [] g .0) .1)
 
   -- ---- wait for interrupt
@@ -253,7 +253,7 @@ module _ (z : Size) (b : Board) (order : List ℕ) (queues : ℕ → List ℕ) (
       (withBit-other s IWAT WAIT refl ∙ w) (withBit-other s IWAT INTQ refl ∙ e) (withBit-other s IWAT MHBS refl ∙ m)))
 
   -- so its row and R7 have it
-  pub wait-settled : (c : ℕ) → Awake b c → has (task b c .stat) MHBS ≡ false → lowest (ownRow z b c WaitForInterrupt) ≡ Go
+  pub wait-settled : (c : ℕ) → Awake b c → has (task b c .stat) MHBS ≡ false → given (ownRow z b c WaitForInterrupt) ≡ Go
       → Settled z (waitInterrupt b c) order queues
   wait-settled c awake m g =
       let r = ready-says b c (awake (runner-passed c (go-passed (no3 c) [] g .0))) in

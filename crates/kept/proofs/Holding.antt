@@ -23,10 +23,10 @@ use Rattle.board.proofs.Codec.{place-held}
 use Rattle.paper.specs.declared.call.Call.the-variants.{Claim, Prepare, Release}
 use Rattle.paper.specs.Rules.{present, nextMessage, messageNumber}
 use Rattle.paper.specs.Effects.{lowestFree, claim, release, prepare}
-use Rattle.paper.specs.Refusals.{no14, ownRow, Go, lowest}
+use Rattle.paper.specs.Refusals.{no14, ownRow, Go, given}
 use Rattle.linked.specs.Linked.{Listing}
 use Rattle.linked.specs.Sound.{Pointers, PlaceGood}
-use Rattle.linked.proofs.Running.{present-numbered, placed-numbered, ready-says, lowest-free}
+use Rattle.linked.proofs.Running.{present-numbered, placed-numbered, ready-says, given-free}
 use Rattle.kept.specs.Settled.{FitsMessage, Fits, Settled, Awake, Fitting}
 use Rattle.kept.specs.Claims.{Sizes}
 use Rattle.kept.proofs.Reading.{nth-cases, message-put, message-other, held-placed}
@@ -124,12 +124,12 @@ module _ (z : Size) (b : Board) (order : List ℕ) (queues : ℕ → List ℕ) (
   pub settled-claim : (c : ℕ) → present b c ≡ true → lowestFree b ≢ 0 → Settled z (claim b c) order queues
   settled-claim c p h =
       let m : ℕ = lowestFree b in
-      let r = lowest-free b h in
+      let r = given-free b h in
       let k : PlaceGood z b m Free = subst (PlaceGood z b m) (r .1) (s .regular .places m (rw (s .fits .places) at (r .0))) in
       settled-place z b order queues s m (HeldBy (taskNo c)) (ap isQueued (r .1)) refl (held-fits c p) (free-held z b m c p k)
 
   -- so its row has it
-  pub claim-settled : (c : ℕ) → Awake b c → lowest (ownRow z b c Claim) ≡ Go → Settled z (claim b c) order queues
+  pub claim-settled : (c : ℕ) → Awake b c → given (ownRow z b c Claim) ≡ Go → Settled z (claim b c) order queues
   claim-settled c awake g = let (runs, free) = claim-row b c g in settled-claim c (ready-says b c (awake runs) .0) free
 
 -- ---- release and prepare
@@ -150,7 +150,7 @@ module _ (z : Size) (b : Board) (order : List ℕ) (queues : ℕ → List ℕ) (
       (message-put b m noMessage (rw (← s .fits .messages) at n))
 
   -- so its row has it
-  pub release-settled : (c m : ℕ) → lowest (ownRow z b c (Release m)) ≡ Go → Settled z (release b m) order queues
+  pub release-settled : (c m : ℕ) → given (ownRow z b c (Release m)) ≡ Go → Settled z (release b m) order queues
   release-settled c m g = settled-release c m (held-row z b c m [] g .1)
 
   -- a held message is prepared
@@ -165,7 +165,7 @@ module _ (z : Size) (b : Board) (order : List ℕ) (queues : ℕ → List ℕ) (
       (record { receiver = k .0 .receiver; sender = h }) (k .1)
 
   -- so its row has it
-  pub prepare-settled : (c m t p sptr : ℕ) → Fitting (Prepare m t p sptr) → lowest (ownRow z b c (Prepare m t p sptr)) ≡ Go
+  pub prepare-settled : (c m t p sptr : ℕ) → Fitting (Prepare m t p sptr) → given (ownRow z b c (Prepare m t p sptr)) ≡ Go
       → Settled z (prepare b m t p sptr) order queues
   prepare-settled c m t p sptr f g =
       let r = held-row z b c m (no14 z sptr ∷ []) g in

@@ -32,7 +32,7 @@ use Rattle.paper.specs.declared.call.Call.the-variants.{Install}
 use Rattle.paper.specs.Rules.{isThere, present, nextTask, nextMessage, order, taskNumber, messageNumber, goodHead}
 use Rattle.paper.specs.Changes.{linkTask, withOrder}
 use Rattle.paper.specs.Effects.{install}
-use Rattle.paper.specs.Refusals.{no9, ownRow, Go, lowest}
+use Rattle.paper.specs.Refusals.{no9, ownRow, Go, given}
 use Rattle.linked.specs.Linked.{Listing}
 use Rattle.linked.specs.Sound.{Proper, PlaceGood}
 use Rattle.linked.proofs.Tests.{says-goodHead}
@@ -235,7 +235,7 @@ module _ (z : Size) (b : Board) (q : List ℕ) (queues : ℕ → List ℕ) (a : 
         listed-exact listed-sorted)
 
   -- so its row has it
-  pub install-settled : (c : ℕ) → Fitting (Install k stat p sptr name) → lowest (ownRow z b c (Install k stat p sptr name)) ≡ Go
+  pub install-settled : (c : ℕ) → Fitting (Install k stat p sptr name) → given (ownRow z b c (Install k stat p sptr name)) ≡ Go
       → Settled z (install z b k stat p sptr name) (orderAfter b q (IntoOrder k p)) queues
   install-settled c f g =
       let (prio, n, absent, bits) = install-row z b k stat p g in

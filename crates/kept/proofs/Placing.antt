@@ -30,7 +30,7 @@ use Rattle.paper.specs.declared.call.Call.the-variants.{Send, Resend, Forward, 
 use Rattle.paper.specs.Rules.{present, nextMessage, messageNumber}
 use Rattle.paper.specs.Changes.{withQueue}
 use Rattle.paper.specs.Effects.{woken, placeAt, ownPrio, addressed, send, resend, forward, giveBack, waits}
-use Rattle.paper.specs.Refusals.{Test, no3, no4, no5, no6, no7, ownRow, Go, lowest}
+use Rattle.paper.specs.Refusals.{Test, no3, no4, no5, no6, no7, ownRow, Go, given}
 use Rattle.linked.specs.Sound.{Pointers}
 use Rattle.linked.proofs.Running.{ready-says}
 use Rattle.kept.specs.Settled.{Settled, Awake}
@@ -204,8 +204,8 @@ module _ (z : Size) (b : Board) (order : List ℕ) (queues : ℕ → List ℕ) (
 
 -- ---- the calls, each with its wait form
 -- refusals 3 to 6 of their rows
-pub sender-passed : (z : Size) (b : Board) (c m r : ℕ) (tests : List Test) → lowest (no3 c ∷ no4 z m ∷ no5 b c m ∷ no6 z b r ∷ tests) ≡ Go
-    → (c ≢ 0) × (place b m ≡ HeldBy (taskNo c)) × (present b r ≡ true) × (lowest tests ≡ Go)
+pub sender-passed : (z : Size) (b : Board) (c m r : ℕ) (tests : List Test) → given (no3 c ∷ no4 z m ∷ no5 b c m ∷ no6 z b r ∷ tests) ≡ Go
+    → (c ≢ 0) × (place b m ≡ HeldBy (taskNo c)) × (present b r ≡ true) × (given tests ≡ Go)
 sender-passed z b c m r tests g =
     let s = go-passed (no3 c) (no4 z m ∷ no5 b c m ∷ no6 z b r ∷ tests) g in
     let t = go-passed (no4 z m) (no5 b c m ∷ no6 z b r ∷ tests) (s .1) in
@@ -216,7 +216,7 @@ sender-passed z b c m r tests g =
 module _ (z : Size) (b : Board) (order : List ℕ) (queues : ℕ → List ℕ) (sizes : Sizes z) (settled : Settled z b order queues)
     (c : ℕ) (awake : Awake b c) where
   -- send: the message addressed, then placed
-  pub send-settled : (m r : ℕ) → lowest (ownRow z b c (Send m r)) ≡ Go
+  pub send-settled : (m r : ℕ) → given (ownRow z b c (Send m r)) ≡ Go
       → WithWait z b order c (send z b c m r) (queuesAfter b queues (IntoQueue m (ownPrio (message b m .prio) (task b c .prio)) r))
   send-settled m r g =
       let (n, held, there, h) = sender-passed z b c m r [] g in
@@ -228,7 +228,7 @@ module _ (z : Size) (b : Board) (order : List ℕ) (queues : ℕ → List ℕ) (
       (addressed-low z b order queues sizes settled m r c held there (s .0)) c s)
 
   -- forward: placed as it is, for refusal 7 has passed
-  pub forward-settled : (m r : ℕ) → lowest (ownRow z b c (Forward m r)) ≡ Go
+  pub forward-settled : (m r : ℕ) → given (ownRow z b c (Forward m r)) ≡ Go
       → WithWait z b order c (forward z b m r) (queuesAfter b queues (IntoQueue m (message b m .prio) r))
   forward-settled m r g =
       let (n, held, there, h) = sender-passed z b c m r (no7 b m ∷ []) g in
@@ -236,11 +236,11 @@ module _ (z : Size) (b : Board) (order : List ℕ) (queues : ℕ → List ℕ) (
       (eqb-false (number (message b m .prio)) 127 (go-passed (no7 b m) [] h .0)) c (ready-says b c (awake n))
 
   -- resend: at the task that RPTR names
-  pub resend-settled : (m : ℕ) → lowest (ownRow z b c (Resend m)) ≡ Go
+  pub resend-settled : (m : ℕ) → given (ownRow z b c (Resend m)) ≡ Go
       → WithWait z b order c (resend z b m) (queuesAfter b queues (IntoQueue m (message b m .prio) (message b m .rptr)))
   resend-settled m g = forward-settled m (message b m .rptr) g
 
   -- return: at the task that SPTR names
-  pub return-settled : (m : ℕ) → lowest (ownRow z b c (Return m)) ≡ Go
+  pub return-settled : (m : ℕ) → given (ownRow z b c (Return m)) ≡ Go
       → WithWait z b order c (giveBack z b m) (queuesAfter b queues (IntoQueue m (message b m .prio) (message b m .sptr)))
   return-settled m g = forward-settled m (message b m .sptr) g

@@ -17,16 +17,16 @@ use Rattle.board.specs.declared.numbers.Size.{Size}
 use Rattle.board.specs.declared.records.Task.{Task}
 use Rattle.board.specs.declared.records.Message.{Message}
 use Rattle.board.specs.declared.places.Place.{Place}
-use Rattle.board.specs.declared.places.Place.the-variants.{Free, HeldBy, QueuedAt, Nowhere}
+use Rattle.board.specs.declared.places.Place.the-variants.{Free, HeldBy, QueuedAt, OnTimer, Nowhere}
 use Rattle.board.specs.Numbers.{outside, taskNo, Numbered}
 use Rattle.board.specs.Records.{Byte, noTask, noMessage}
-use Rattle.board.specs.Places.{placeOf, placeByte, isFree, isHeldBy, isQueuedAt}
+use Rattle.board.specs.Places.{placeOf, placeByte, isFree, isHeldBy, isQueuedAt, isOnTimer}
 use Rattle.board.specs.Board.{Board, nth, put, task, message, place, withFirst, withTasks, withMessages, withPlaces, withTask, withMessage, withPlace}
 use Rattle.board.proofs.Numbered.{nth-put, nth-put-other, nth-alike, length-put}
-use Rattle.board.proofs.Pieces.{outside-within, neither}
+use Rattle.board.proofs.Pieces.{outside-within, neither, nth-outside}
 use Rattle.paper.specs.Rules.{isThere, present, order, queue}
 use Rattle.paper.specs.Effects.{lowestFree}
-use Rattle.paper.specs.Refusals.{Test, no3, no4, no5, no6, no7Install, no8, no9, no10, no11, Verdict, Go, Stop, lowest}
+use Rattle.paper.specs.Refusals.{Test, no3, no4, no5, no6, no7Install, no8, no9, no10, no11, Verdict, Go, Stop, given}
 use Rattle.linked.specs.Linked.{Listing}
 use Rattle.linked.specs.Sound.{Proper, PlaceGood}
 use Rattle.linked.proofs.Tests.{says-isQueuedAt, says-isHeldBy}
@@ -191,13 +191,28 @@ absent-none t (inl e) p = e
 absent-none t (inr h) p = absurd (true≢false (sym (h .there) ∙ p))
 
 -- ---- a message that stays
+-- one on the timer is one of the board's
+pub timed-numbered : (z : Size) (b : Board) → length (b .places) ≡ z .messages → (m : ℕ) → place b m ≡ OnTimer
+    → Numbered (z .messages) m
+timed-numbered z b e m p = go (outside (z .messages) m) refl
+  where
+    go : (t : Bool) → outside (z .messages) m ≡ t → Numbered (z .messages) m
+    go true o = absurd (true≢false (sym (ap isOnTimer p) ∙ ap isOnTimer (nth-outside Free (b .places) m (rw e o))))
+    go false o = outside-within (z .messages) m o
+
+-- the task that must be there for it: its holder, its receiver, or its SPTR on the timer
+pub data Needs (u : Message) (p : Place) (k : ℕ) : Type 0 where
+  holder : p ≡ HeldBy (taskNo k) → Needs u p k
+  receiver : p ≡ QueuedAt (taskNo k) → Needs u p k
+  sender : p ≡ OnTimer → u .sptr ≡ k → Needs u p k
+
 -- the same record, and its task still present
 pub good-stays : (z : Size) (b c : Board) (m : ℕ) (p : Place) → message c m ≡ message b m
-    → ((k : ℕ) → (p ≡ HeldBy (taskNo k)) ⊎ (p ≡ QueuedAt (taskNo k)) → present b k ≡ true → present c k ≡ true)
-    → PlaceGood z b m p → PlaceGood z c m p
+    → ((k : ℕ) → Needs (message b m) p k → present b k ≡ true → present c k ≡ true) → PlaceGood z b m p → PlaceGood z c m p
 good-stays z b c m Free e h k = e ∙ k
-good-stays z b c m (HeldBy k) e h (p, l, t) = rw e (p, l, h (k .0) (inl refl) t)
-good-stays z b c m (QueuedAt k) e h (p, f, l, t) = rw e (p, f, l, h (k .0) (inr refl) t)
+good-stays z b c m (HeldBy k) e h (p, l, t) = rw e (p, l, h (k .0) (holder refl) t)
+good-stays z b c m (QueuedAt k) e h (p, f, l, t) = rw e (p, f, l, h (k .0) (receiver refl) t)
+good-stays z b c m OnTimer e h (p, l, t, f) = rw e (p, l, h (message b m .sptr) (sender refl refl) t, f)
 good-stays z b c m (Nowhere p) e h k = k
 
 -- ---- what the walks visit
@@ -221,12 +236,12 @@ stops Go = false
 stops (Stop q) = true
 
 -- its first doesn't apply, and neither do the others
-pub go-passed : (t : Test) (tests : List Test) → lowest (t ∷ tests) ≡ Go → (t .applies ≡ false) × (lowest tests ≡ Go)
+pub go-passed : (t : Test) (tests : List Test) → given (t ∷ tests) ≡ Go → (t .applies ≡ false) × (given tests ≡ Go)
 go-passed t tests g = step (t .applies) refl
   where
-    step : (a : Bool) → t .applies ≡ a → (t .applies ≡ false) × (lowest tests ≡ Go)
-    step true e = absurd (true≢false (ap stops (rw (e, lowest) at g)))
-    step false e = (e, rw (e, lowest) at g)
+    step : (a : Bool) → t .applies ≡ a → (t .applies ≡ false) × (given tests ≡ Go)
+    step true e = absurd (true≢false (ap stops (rw (e, given) at g)))
+    step false e = (e, rw (e, given) at g)
 
 -- 3: somebody runs
 pub runner-passed : (c : ℕ) → no3 c .applies ≡ false → c ≢ 0
@@ -237,8 +252,8 @@ pub held-passed : (b : Board) (c m : ℕ) → no5 b c m .applies ≡ false → p
 held-passed b c m e = says-isHeldBy c (place b m) .0 (not-false (isHeldBy c (place b m)) e)
 
 -- 3, 4 and 5 before others: the running task holds the message
-pub held-row : (z : Size) (b : Board) (c m : ℕ) (tests : List Test) → lowest (no3 c ∷ no4 z m ∷ no5 b c m ∷ tests) ≡ Go
-    → (c ≢ 0) × (place b m ≡ HeldBy (taskNo c)) × (lowest tests ≡ Go)
+pub held-row : (z : Size) (b : Board) (c m : ℕ) (tests : List Test) → given (no3 c ∷ no4 z m ∷ no5 b c m ∷ tests) ≡ Go
+    → (c ≢ 0) × (place b m ≡ HeldBy (taskNo c)) × (given tests ≡ Go)
 held-row z b c m tests g =
     let runs = go-passed (no3 c) (no4 z m ∷ no5 b c m ∷ tests) g in
     let holds = go-passed (no5 b c m) tests (go-passed (no4 z m) (no5 b c m ∷ tests) (runs .1) .1) in
@@ -251,7 +266,7 @@ task-passed z b r e =
     (outside-within (z .tasks) r (n .0), not-false (present b r) (n .1))
 
 -- 7, 8 and 9, the row of install: the task is one of the board's, and absent
-pub install-row : (z : Size) (b : Board) (k s p : ℕ) → lowest (no7Install p ∷ no8 z b k ∷ no9 s ∷ []) ≡ Go
+pub install-row : (z : Size) (b : Board) (k s p : ℕ) → given (no7Install p ∷ no8 z b k ∷ no9 s ∷ []) ≡ Go
     → (no7Install p .applies ≡ false) × Numbered (z .tasks) k × (present b k ≡ false) × (no9 s .applies ≡ false)
 install-row z b k s p g =
     let prio = go-passed (no7Install p) (no8 z b k ∷ no9 s ∷ []) g in
@@ -260,15 +275,15 @@ install-row z b k s p g =
     (prio .0, outside-within (z .tasks) k (n .0), n .1, go-passed (no9 s) [] (room .1) .0)
 
 -- 3, 6 and 10, the row of cancel task: the task is one of the board's, present, and not busy
-pub cancel-row : (z : Size) (b : Board) (c k : ℕ) → lowest (no3 c ∷ no6 z b k ∷ no10 b k ∷ []) ≡ Go
-    → Numbered (z .tasks) k × (present b k ≡ true) × (no10 b k .applies ≡ false)
+pub cancel-row : (z : Size) (b : Board) (c k : ℕ) → given (no3 c ∷ no6 z b k ∷ no10 z b k ∷ []) ≡ Go
+    → Numbered (z .tasks) k × (present b k ≡ true) × (no10 z b k .applies ≡ false)
 cancel-row z b c k g =
-    let meant = go-passed (no6 z b k) (no10 b k ∷ []) (go-passed (no3 c) (no6 z b k ∷ no10 b k ∷ []) g .1) in
+    let meant = go-passed (no6 z b k) (no10 z b k ∷ []) (go-passed (no3 c) (no6 z b k ∷ no10 z b k ∷ []) g .1) in
     let there = task-passed z b k (meant .0) in
-    (there .0, there .1, go-passed (no10 b k) [] (meant .1) .0)
+    (there .0, there .1, go-passed (no10 z b k) [] (meant .1) .0)
 
 -- 3 and 11, the row of claim: somebody runs, and a message is free
-pub claim-row : (b : Board) (c : ℕ) → lowest (no3 c ∷ no11 b ∷ []) ≡ Go → (c ≢ 0) × (lowestFree b ≢ 0)
+pub claim-row : (b : Board) (c : ℕ) → given (no3 c ∷ no11 b ∷ []) ≡ Go → (c ≢ 0) × (lowestFree b ≢ 0)
 claim-row b c g =
     let runs = go-passed (no3 c) (no11 b ∷ []) g in
     (runner-passed c (runs .0), eqb-false (lowestFree b) 0 (go-passed (no11 b) [] (runs .1) .0))

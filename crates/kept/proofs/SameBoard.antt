@@ -16,7 +16,7 @@ use Rattle.board.specs.declared.numbers.Size.{Size}
 use Rattle.board.specs.declared.records.Task.{Task}
 use Rattle.board.specs.declared.records.Message.{Message}
 use Rattle.board.specs.declared.places.Place.{Place}
-use Rattle.board.specs.declared.places.Place.the-variants.{Free, HeldBy, QueuedAt, Nowhere}
+use Rattle.board.specs.declared.places.Place.the-variants.{Free, HeldBy, QueuedAt, OnTimer, Nowhere}
 use Rattle.board.specs.Numbers.{Numbered}
 use Rattle.board.specs.Records.{noTask, noMessage, taskWithLink, taskWithMptr, withLink}
 use Rattle.board.specs.Board.{Board, board, task, message, place}
@@ -80,6 +80,7 @@ module _ (z : Size) (b d : Board) (q : List ℕ) (f g : ℕ → List ℕ) (s : S
       (s .regular .linked .messages (k .0) n .chain)
       (subst (Chain (nextMessage d) (task d (k .0) .mptr)) (sym (lists (k .0) n)) (t .regular .linked .messages (k .0) n .chain)) m
       (s .regular .linked .messages (k .0) n .exact m .1 e)
+  next-same m OnTimer e h u v = u .1 ∙ sym (v .1)
   next-same m (Nowhere p) e h u v = absurd u
 
   message-same : (m : ℕ) → Numbered (z .messages) m → message b m ≡ message d m

@@ -32,7 +32,7 @@ use Rattle.paper.specs.declared.call.Call.the-variants.{Receive, CancelMessage}
 use Rattle.paper.specs.Rules.{present, nextMessage, messageNumber, queue}
 use Rattle.paper.specs.Changes.{clears, withQueue, hold, takeFirst}
 use Rattle.paper.specs.Effects.{emptied, cancelMessage}
-use Rattle.paper.specs.Refusals.{no3, no4, no6, no12, no13, ownRow, Go, lowest}
+use Rattle.paper.specs.Refusals.{no3, no4, no6, no12, no13, ownRow, Go, given}
 use Rattle.linked.specs.Sound.{PlaceGood}
 use Rattle.linked.proofs.Tests.{says-isQueuedAt}
 use Rattle.linked.proofs.Running.{placed-numbered, ready-says}
@@ -186,7 +186,7 @@ pub queued-passed : (r : ℕ) (p : Place) → not (isQueuedAt r p) ≡ false →
 queued-passed r p e = says-isQueuedAt r p .0 (not-false (isQueuedAt r p) e)
 
 -- 3, 4, 6, 12 and 13, the row of cancel message: the task meant is one of the board's, and the message is queued there
-pub cancel-message-row : (z : Size) (b : Board) (c m r : ℕ) → lowest (ownRow z b c (CancelMessage m r)) ≡ Go
+pub cancel-message-row : (z : Size) (b : Board) (c m r : ℕ) → given (ownRow z b c (CancelMessage m r)) ≡ Go
     → (c ≢ 0) × Numbered (z .tasks) r × (place b m ≡ QueuedAt (taskNo r))
 cancel-message-row z b c m r g =
     let s = go-passed (no3 c) (no4 z m ∷ no6 z b r ∷ no12 b m r ∷ no13 b c m ∷ []) g in
@@ -198,7 +198,7 @@ cancel-message-row z b c m r g =
 module _ (z : Size) (b : Board) (order : List ℕ) (queues : ℕ → List ℕ) (sizes : Sizes z) (settled : Settled z b order queues)
     (c : ℕ) (awake : Awake b c) where
   -- receive: the first of its queue, or none
-  pub receive-settled : has (task b c .stat) MHBS ≡ false → lowest (ownRow z b c Receive) ≡ Go
+  pub receive-settled : has (task b c .stat) MHBS ≡ false → given (ownRow z b c Receive) ≡ Go
       → Settled z (takeFirst z b c) order (queuesAfter b queues (OutOfQueue (task b c .mptr) c))
   receive-settled e g =
       let runs = ready-says b c (awake (runner-passed c (go-passed (no3 c) [] g .0))) .0 in
@@ -207,7 +207,7 @@ module _ (z : Size) (b : Board) (order : List ℕ) (queues : ℕ → List ℕ) (
       (take-settled z b order queues sizes settled c runs e)
 
   -- cancel message: out of the queue of the task meant
-  pub cancel-message-settled : (m r : ℕ) → lowest (ownRow z b c (CancelMessage m r)) ≡ Go
+  pub cancel-message-settled : (m r : ℕ) → given (ownRow z b c (CancelMessage m r)) ≡ Go
       → Settled z (cancelMessage z b c m r) order (queuesAfter b queues (OutOfQueue m r))
   cancel-message-settled m r g =
       let (runs, n, e) = cancel-message-row z b c m r g in

@@ -21,7 +21,7 @@ use Rattle.paper.specs.declared.answer.Answer.{Answer}
 use Rattle.paper.specs.declared.answer.Answer.the-variants.{Refused}
 use Rattle.paper.specs.Answers.{numberOf, handed}
 use Rattle.paper.specs.Rules.{order, runsNext, passes}
-use Rattle.paper.specs.Refusals.{no1, no2, ownRow, row, Verdict, Go, Stop, lowest}
+use Rattle.paper.specs.Refusals.{no1, no2, ownRow, row, Verdict, Go, Stop, given}
 use Rattle.paper.specs.Outcomes.{Outcome, Undispatched, judge, body, dispatch, accepted, effect}
 use Rattle.paper.proofs.Theorems.{row-below, accepted-passed}
 use Rattle.linked.specs.Sound.{RunsRightly, Sound}
@@ -73,7 +73,7 @@ module _ (z : Size) (l : List ℕ) (call : Call) (a : Sizes z) (h : (i : ℕ) �
   orderThen = orderAfter b (order z b) (touched b (b .running) call .move)
 
   -- a call that no refusal stops leaves a board that is settled
-  pub settles : lowest (row z l b (b .running) call) ≡ Go → (queues : ℕ → List ℕ) × Settled z (d .board) orderThen queues
+  pub settles : given (row z l b (b .running) call) ≡ Go → (queues : ℕ → List ℕ) × Settled z (d .board) orderThen queues
   settles g =
       let long = go-passed (no1 z l) (no2 z b ∷ ownRow z b (b .running) call) g in
       let rules = go-passed (no2 z b) (ownRow z b (b .running) call) (long .1) in
@@ -86,7 +86,7 @@ module _ (z : Size) (l : List ℕ) (call : Call) (a : Sizes z) (h : (i : ℕ) �
       )
 
   -- what dispatch makes of it
-  pub went : lowest (row z l b (b .running) call) ≡ Go → Handing z orderThen l d
+  pub went : given (row z l b (b .running) call) ≡ Go → Handing z orderThen l d
   went g = let (queues, s) = settles g in dispatched z orderThen l queues (d .value) (d .board) a s
 
   -- it is not refused
@@ -96,7 +96,7 @@ module _ (z : Size) (l : List ℕ) (call : Call) (a : Sizes z) (h : (i : ℕ) �
       let y : handed (o .answer) .number ≡ 15 = ap (λ (x : Answer). handed x .number) r in
       absurd (omega arith)
 
-  by-verdict : (v : Verdict) → lowest (row z l b (b .running) call) ≡ v → judge l v (dispatch z l d) .answer ≢ Refused NothingToDeliver
+  by-verdict : (v : Verdict) → given (row z l b (b .running) call) ≡ v → judge l v (dispatch z l d) .answer ≢ Refused NothingToDeliver
   by-verdict Go e = let t = went e in accepted-number (dispatch z l d) (d .value) (runsNext z (d .board)) (t .delivered) (bytesOf (t .board)) (t .ends)
   by-verdict (Stop q) e = λ r.
       let x : numberOf q ≡ 15 = ap (λ (x : Answer). handed x .number) r in
@@ -107,7 +107,7 @@ module _ (z : Size) (l : List ℕ) (call : Call) (a : Sizes z) (h : (i : ℕ) �
   abbrev Passes : List ℕ → Type 0
   Passes k = Bytes z k × (passes z (boardOf z k) ≡ true)
 
-  passes-after : (v : Verdict) → lowest (row z l b (b .running) call) ≡ v → Passes l → Passes (judge l v (dispatch z l d) .after)
+  passes-after : (v : Verdict) → given (row z l b (b .running) call) ≡ v → Passes l → Passes (judge l v (dispatch z l d) .after)
   passes-after Go e p =
       let t = went e in
       let f = t .settled .fits in
@@ -120,11 +120,11 @@ module _ (z : Size) (l : List ℕ) (call : Call) (a : Sizes z) (h : (i : ℕ) �
   passes-after (Stop q) e p = p
 
 pub never-stuck : NeverStuck
-never-stuck z l call a h w = by-verdict z l call a h w (lowest (row z l (boardOf z l) (boardOf z l .running) call)) refl
+never-stuck z l call a h w = by-verdict z l call a h w (given (row z l (boardOf z l) (boardOf z l .running) call)) refl
 
 pub passing-stays-passing : PassingStaysPassing
 passing-stays-passing z l call a h w p =
-    passes-after z l call a (h .bytes) w (lowest (row z l (boardOf z l) (boardOf z l .running) call)) refl (h, p)
+    passes-after z l call a (h .bytes) w (given (row z l (boardOf z l) (boardOf z l .running) call)) refl (h, p)
 
 -- accepted, so the board passed; so it passes now; so each block is in one place
 pub every-block-once : EveryBlockOnce

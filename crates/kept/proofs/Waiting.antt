@@ -22,7 +22,7 @@ use Rattle.paper.specs.declared.call.Call.the-variants.{ReceiveAndWait}
 use Rattle.paper.specs.Rules.{present, nextMessage, emptyQueue}
 use Rattle.paper.specs.Changes.{sets, clears}
 use Rattle.paper.specs.Effects.{woken, waits, emptied}
-use Rattle.paper.specs.Refusals.{no3, ownRow, Go, lowest}
+use Rattle.paper.specs.Refusals.{no3, ownRow, Go, given}
 use Rattle.paper.proofs.Which.{nth-numbered}
 use Rattle.linked.specs.Linked.{Linked}
 use Rattle.linked.specs.Sound.{Flags}
@@ -83,7 +83,7 @@ woken-stat b r k w =
 
 -- receive and wait
 pub receive-and-wait-settled : (z : Size) (b : Board) (order : List ℕ) (queues : ℕ → List ℕ) → Settled z b order queues
-    → (c : ℕ) → Awake b c → has (task b c .stat) MHBS ≡ false → lowest (ownRow z b c ReceiveAndWait) ≡ Go
+    → (c : ℕ) → Awake b c → has (task b c .stat) MHBS ≡ false → given (ownRow z b c ReceiveAndWait) ≡ Go
     → Settled z (waits c b) order queues
 receive-and-wait-settled z b order queues h c awake m g =
     let r = ready-says b c (awake (runner-passed c (go-passed (no3 c) [] g .0))) in

@@ -17,7 +17,7 @@ use Rattle.paper.specs.declared.answer.Answer.{Answer}
 use Rattle.paper.specs.declared.answer.Answer.the-variants.{Accepted, Refused}
 use Rattle.paper.specs.Answers.{numberOf, handed}
 use Rattle.paper.specs.Rules.{taskNumber, emptyQueue, mayRun, firstReady, runsNext}
-use Rattle.paper.specs.Refusals.{row, Verdict, Go, Stop, lowest}
+use Rattle.paper.specs.Refusals.{row, Verdict, Go, Stop, given}
 use Rattle.paper.specs.Outcomes.{Outcome, Undispatched, undispatched, judge, accepted, body, deliver, dispatchTo, dispatch, effect}
 use Rattle.paper.proofs.Theorems.{refusal-number}
 use Rattle.linked.specs.Sound.{RunsRightly}
@@ -52,15 +52,15 @@ module _ (v c m : ℕ) where
 
     -- who runs next after the effect
     effect-runs : effect z l call .answer ≡ Accepted v c m → c ≡ runsNext z (d .board)
-    effect-runs = step (lowest (row z l (boardOf z l) (boardOf z l .running) call))
+    effect-runs = step (given (row z l (boardOf z l) (boardOf z l .running) call))
       where
         step : (w : Verdict) → judge l w (dispatch z l d) .answer ≡ Accepted v c m → c ≡ runsNext z (d .board)
         step Go e = dispatched-runs z l (undispatched (d .value) (withRunning (d .board) (runsNext z (d .board)))) (runsNext z (d .board)) e
         step (Stop q) e = absurd (not-refused q e)
 
     -- and no refusal stopped it
-    effect-goes : effect z l call .answer ≡ Accepted v c m → lowest (row z l (boardOf z l) (boardOf z l .running) call) ≡ Go
-    effect-goes e = step (lowest (row z l (boardOf z l) (boardOf z l .running) call)) e
+    effect-goes : effect z l call .answer ≡ Accepted v c m → given (row z l (boardOf z l) (boardOf z l .running) call) ≡ Go
+    effect-goes e = step (given (row z l (boardOf z l) (boardOf z l .running) call)) e
       where
         step : (w : Verdict) → judge l w (dispatch z l d) .answer ≡ Accepted v c m → w ≡ Go
         step Go e = refl

@@ -10,7 +10,9 @@
 --                       else a ready task of the smallest ready priority number
 --   EqualNeverPushes    where the task that ran is ready after the effect and no ready task has a smaller number, it runs on
 --   SmallerRunsAtOnce   where a ready task has a smaller number, one of the smallest runs
---   EveryBlockOnce      after an accepted call, on whatever bytes, every block is free, held by one present task, or in one queue once
+--   EveryBlockOnce      after an accepted call, on whatever bytes, every block is free, held by one present task, in one queue once, or
+--                       placed on the timer
+--   CallsLeaveTheTimer  none of the nineteen calls puts a message on the timer or takes one off, and of one that is there it changes nothing
 -- Assumes nothing.
 use mathlib.Core.Path.{_≡_}
 use mathlib.Core.Logic.{_≢_}
@@ -22,14 +24,15 @@ use Rattle.board.specs.declared.numbers.Size.{Size}
 use Rattle.board.specs.Numbers.{Numbered}
 use Rattle.board.specs.Status.{MHBS, has}
 use Rattle.board.specs.Records.{Byte}
-use Rattle.board.specs.Board.{Board, boardOf, task}
+use Rattle.board.specs.Places.{isOnTimer}
+use Rattle.board.specs.Board.{Board, boardOf, task, message, place}
 use Rattle.board.specs.Claims.{Bytes}
 use Rattle.paper.specs.declared.call.Call.{Call}
 use Rattle.paper.specs.declared.answer.Refusal.the-variants.{NothingToDeliver}
 use Rattle.paper.specs.declared.answer.Answer.the-variants.{Accepted, Refused}
 use Rattle.paper.specs.Rules.{queue, taskNumber, ready, passes}
 use Rattle.paper.specs.Changes.{clears, takeFirst}
-use Rattle.paper.specs.Refusals.{ownRow, Go, lowest}
+use Rattle.paper.specs.Refusals.{ownRow, Go, given}
 use Rattle.paper.specs.Outcomes.{body, effect}
 use Rattle.linked.specs.Sound.{Leads, RunsRightly}
 use Rattle.linked.specs.Claims.{Whereabouts}
@@ -45,7 +48,7 @@ pub record Sizes (z : Size) : Type 0 where
 abbrev pub BodySettles : Type 0
 BodySettles =
     (z : Size) (b : Board) (order : List ℕ) (queues : ℕ → List ℕ) (c : ℕ) (call : Call) → Sizes z → Fitting call
-    → Settled z b order queues → Awake b c → has (task b c .stat) MHBS ≡ false → lowest (ownRow z b c call) ≡ Go
+    → Settled z b order queues → Awake b c → has (task b c .stat) MHBS ≡ false → given (ownRow z b c call) ≡ Go
     → let move = touched b c call .move in Settled z (body z b c call .board) (orderAfter b order move) (queuesAfter b queues move)
 
 -- ---- what else stays, of any board
@@ -97,3 +100,10 @@ EveryBlockOnce =
     (z : Size) (l : List ℕ) (call : Call) (v c m : ℕ) → Sizes z → ((i : ℕ) → Byte (getD l i 0)) → Fitting call
     → let o = effect z l call in o .answer ≡ Accepted v c m
     → (n : ℕ) → Numbered (z .messages) n → Whereabouts z (boardOf z (o .after)) n
+
+-- ---- a message on the timer: document 02, Ask 5
+abbrev pub CallsLeaveTheTimer : Type 0
+CallsLeaveTheTimer =
+    (z : Size) (l : List ℕ) (call : Call) → Sizes z → ((i : ℕ) → Byte (getD l i 0)) → Fitting call
+    → let b = boardOf z l in let d = boardOf z (effect z l call .after) in
+    (m : ℕ) → (isOnTimer (place d m) ≡ isOnTimer (place b m)) × (isOnTimer (place b m) ≡ true → message d m ≡ message b m)

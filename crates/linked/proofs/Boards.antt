@@ -14,7 +14,7 @@ use Rattle.links.proofs.Chains.{chain-once}
 use Rattle.board.specs.declared.numbers.Size.{Size}
 use Rattle.board.specs.declared.numbers.TaskNo.{TaskNo}
 use Rattle.board.specs.declared.places.Place.{Place}
-use Rattle.board.specs.declared.places.Place.the-variants.{Free, HeldBy, QueuedAt, Nowhere}
+use Rattle.board.specs.declared.places.Place.the-variants.{Free, HeldBy, QueuedAt, OnTimer, Nowhere}
 use Rattle.board.specs.Numbers.{taskNo, Numbered}
 use Rattle.board.specs.Records.{noTask}
 use Rattle.board.specs.Places.{isQueuedAt}
@@ -22,7 +22,7 @@ use Rattle.board.specs.Board.{Board, task, place}
 use Rattle.paper.specs.Rules.{isThere, present, nextTask, nextMessage, taskNumber, order, queue, rule3, passes}
 use Rattle.linked.specs.Linked.{Listing, Linked}
 use Rattle.linked.specs.Sound.{PlaceGood, Sound}
-use Rattle.linked.specs.Claims.{Whereabouts, free, held, queued}
+use Rattle.linked.specs.Claims.{Whereabouts, free, held, queued, onTimer}
 use Rattle.linked.proofs.Says.{Says, _&_, says-zero, says-each}
 use Rattle.linked.proofs.Tests.{says-allZero, says-goodTask, says-goodMessage, says-isQueuedAt, says-goodFlags}
 use Rattle.linked.proofs.Listings.{says-lists, listing-walk}
@@ -117,6 +117,7 @@ module _ (z : Size) (b : Board) (tasks : length (b .tasks) ≡ z .tasks) (places
     good-whereabouts m (QueuedAt k) d (r, o, l, t) =
         let i = present-within (k .0) t in
         queued (k .0) d t (in-queue m (k .0) i .1 d) (once-queue (k .0) i) (one-queue m k d)
+    good-whereabouts m OnTimer d k = onTimer d (out-queue m OnTimer d (λ j. refl))
     good-whereabouts m (Nowhere p) d k = absurd k
 
     -- and each has a place

@@ -20,7 +20,7 @@ use Rattle.board.specs.Status.{MHBS, has}
 use Rattle.board.specs.Records.{noTask}
 use Rattle.board.specs.Board.{Board, task}
 use Rattle.board.proofs.Pieces.{within-outside}
-use Rattle.paper.specs.Rules.{isThere, present, nextTask, order, taskNumber, ready, nobodyReady, mayRun, firstReady, runsNext, rule2At, rule3, rule4At, rule5At, rule6At, rules2to6, rule7}
+use Rattle.paper.specs.Rules.{isThere, present, nextTask, order, taskNumber, ready, nobodyReady, mayRun, firstReady, runsNext, rule2At, rule3, rule5At, rule6At, rules2to6, rule7}
 use Rattle.linked.specs.Linked.{Listing}
 use Rattle.linked.specs.Sound.{Leads, RunsRightly}
 use Rattle.linked.proofs.Says.{Says, _&_, says-not, says-apart, says-each, says-same}
@@ -57,10 +57,10 @@ fewer-runs b d c h n e r = record {
 pub none-runs : (b : Board) → ((j : ℕ) → ready b j ≡ false) → RunsRightly b 0
 none-runs b h = record { nobody = ((λ e. h), λ g. refl); leads = λ n. absurd (n refl) }
 
--- R3 is one of R2 to R6
-pub rules3 : (z : Size) (b : Board) → rules2to6 z b ≡ true → rule3 z b ≡ true
-rules3 z b =
-    third (each (rule2At b) (z .tasks)) (rule3 z b) (each (rule4At z b) (z .messages)) (each (rule5At z b) (z .tasks)) (each (rule6At b) (z .tasks))
+-- R3 is one of R2 to R6, whichever R4 is
+pub rules3 : (z : Size) (b : Board) (r4 : ℕ → Bool) → rules2to6 z b r4 ≡ true → rule3 z b ≡ true
+rules3 z b r4 =
+    third (each (rule2At b) (z .tasks)) (rule3 z b) (each r4 (z .messages)) (each (rule5At z b) (z .tasks)) (each (rule6At b) (z .tasks))
   where
     third : (r s t u v : Bool) → r && s && t && u && v ≡ true → s ≡ true
     third r s t u v h = both r s (both (r && s) t (both (r && s && t) u (both (r && s && t && u) v h .0) .0) .0) .1

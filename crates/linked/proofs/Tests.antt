@@ -12,10 +12,10 @@ use Rattle.board.specs.declared.status.Status.{Status}
 use Rattle.board.specs.declared.records.Task.{Task}
 use Rattle.board.specs.declared.records.Message.{Message}
 use Rattle.board.specs.declared.places.Place.{Place}
-use Rattle.board.specs.declared.places.Place.the-variants.{Free, HeldBy, QueuedAt, Nowhere}
+use Rattle.board.specs.declared.places.Place.the-variants.{Free, HeldBy, QueuedAt, OnTimer, Nowhere}
 use Rattle.board.specs.Numbers.{taskNo}
 use Rattle.board.specs.Status.{stored}
-use Rattle.board.specs.Places.{isFree, isHeldBy, isQueuedAt}
+use Rattle.board.specs.Places.{isFree, isHeldBy, isQueuedAt, isOnTimer}
 use Rattle.board.specs.Records.{noTask, noMessage}
 use Rattle.board.specs.Board.{Board, message}
 use Rattle.paper.specs.Rules.{present, allZero, zeroTask, goodHead, goodTask, zeroMessage, goodPointers, goodMessage, goodFlags}
@@ -75,6 +75,9 @@ says-goodMessage z b m (HeldBy k) =
 says-goodMessage z b m (QueuedAt k) =
     Iff·trans (says-goodPointers z (message b m) & Iff·rfl & says-ltb & Iff·rfl)
     ((λ (((r, o), h), t). (r, o, h, t)), λ (r, o, h, t). (((r, o), h), t))
+says-goodMessage z b m OnTimer =
+    Iff·trans (says-goodPointers z (message b m) & says-zero & Iff·rfl & says-ltb)
+    ((λ (((r, l), t), h). (r, l, t, h)), λ (r, l, t, h). (((r, l), t), h))
 says-goodMessage z b m (Nowhere p) = ((λ e. true≢false (sym e)), λ a. absurd a)
 
 -- the place is that queue
@@ -85,6 +88,7 @@ says-isQueuedAt k p = (there p, λ e. ap (isQueuedAt k) e ∙ eq-eqb k k refl)
     there Free e = absurd (true≢false (sym e))
     there (HeldBy j) e = absurd (true≢false (sym e))
     there (QueuedAt j) e = ap (λ (x : ℕ). QueuedAt (taskNo x)) (eqb-true (j .0) k e)
+    there OnTimer e = absurd (true≢false (sym e))
     there (Nowhere j) e = absurd (true≢false (sym e))
 
 -- it is that task's hands
@@ -95,6 +99,7 @@ says-isHeldBy k p = (there p, λ e. ap (isHeldBy k) e ∙ eq-eqb k k refl)
     there Free e = absurd (true≢false (sym e))
     there (HeldBy j) e = ap (λ (x : ℕ). HeldBy (taskNo x)) (eqb-true (j .0) k e)
     there (QueuedAt j) e = absurd (true≢false (sym e))
+    there OnTimer e = absurd (true≢false (sym e))
     there (Nowhere j) e = absurd (true≢false (sym e))
 
 -- it is free
@@ -102,7 +107,16 @@ pub says-isFree : (p : Place) → Says (isFree p) (p ≡ Free)
 says-isFree Free = ((λ e. refl), λ e. refl)
 says-isFree (HeldBy k) = ((λ e. absurd (true≢false (sym e))), ap isFree)
 says-isFree (QueuedAt k) = ((λ e. absurd (true≢false (sym e))), ap isFree)
+says-isFree OnTimer = ((λ e. absurd (true≢false (sym e))), ap isFree)
 says-isFree (Nowhere p) = ((λ e. absurd (true≢false (sym e))), ap isFree)
+
+-- it is the timer
+pub says-isOnTimer : (p : Place) → Says (isOnTimer p) (p ≡ OnTimer)
+says-isOnTimer Free = ((λ e. absurd (true≢false (sym e))), ap isOnTimer)
+says-isOnTimer (HeldBy k) = ((λ e. absurd (true≢false (sym e))), ap isOnTimer)
+says-isOnTimer (QueuedAt k) = ((λ e. absurd (true≢false (sym e))), ap isOnTimer)
+says-isOnTimer OnTimer = ((λ e. refl), λ e. refl)
+says-isOnTimer (Nowhere p) = ((λ e. absurd (true≢false (sym e))), ap isOnTimer)
 
 -- ---- R6: flags
 -- which go together, and with an empty queue

@@ -2,7 +2,7 @@
 --   PassesExactly     a board passes exactly if R1 to R7 hold as the paper words them
 --   LinksAreLists     on a board that passes the links list the tasks and each queue, and what the walks visit are those lists; and
 --                     links that list anything list just that
---   OneWhereabouts    on a board that passes every message is free, held by one present task, or in one queue once
+--   OneWhereabouts    on a board that passes every message is free, held by one present task, in one queue once, or placed on the timer
 --   ConvertedPasses   a board that is converted passes, and the task that is told to run is in byte 1
 --   OnlyByte1         of a board that is converted byte 1 alone is another: the links visit the same, and find gives the same
 -- Assumes nothing.
@@ -14,7 +14,7 @@ use Prim.Native.Nat.{ℕ, _≤_}
 use lib.ListN.{length, getD}
 use Rattle.links.specs.Chain.{In, Out, Once}
 use Rattle.board.specs.declared.numbers.Size.{Size}
-use Rattle.board.specs.declared.places.Place.the-variants.{Free, HeldBy, QueuedAt}
+use Rattle.board.specs.declared.places.Place.the-variants.{Free, HeldBy, QueuedAt, OnTimer}
 use Rattle.paper.specs.declared.answer.Answer.the-variants.{Accepted}
 use Rattle.board.specs.Numbers.{taskNo, Numbered}
 use Rattle.board.specs.Records.{noMessage}
@@ -43,6 +43,7 @@ pub data Whereabouts (z : Size) (b : Board) (m : ℕ) : Type 0 where
       → Whereabouts z b m
   queued : (k : ℕ) → place b m ≡ QueuedAt (taskNo k) → present b k ≡ true → In m (queue z b k) → Once (queue z b k)
       → ((j : ℕ) → Numbered (z .tasks) j → In m (queue z b j) → j ≡ k) → Whereabouts z b m
+  onTimer : place b m ≡ OnTimer → ((k : ℕ) → Numbered (z .tasks) k → Out m (queue z b k)) → Whereabouts z b m
 
 abbrev pub OneWhereabouts : Type 0
 OneWhereabouts =

@@ -18,7 +18,7 @@ use Rattle.board.specs.declared.status.Status.{Status}
 use Rattle.board.specs.declared.records.Task.{Task}
 use Rattle.board.specs.declared.records.Message.{Message}
 use Rattle.board.specs.declared.places.Place.{Place}
-use Rattle.board.specs.declared.places.Place.the-variants.{Free, HeldBy, QueuedAt, Nowhere}
+use Rattle.board.specs.declared.places.Place.the-variants.{Free, HeldBy, QueuedAt, OnTimer, Nowhere}
 use Rattle.board.specs.Numbers.{Numbered}
 use Rattle.board.specs.Status.{WAIT, IWAT, BIT5, INTQ, MHBS, TCBB, has, fifo}
 use Rattle.board.specs.Records.{noTask, noMessage}
@@ -42,6 +42,8 @@ PlaceGood z b m Free = message b m ≡ noMessage
 PlaceGood z b m (HeldBy k) = Pointers z (message b m) × (message b m .link ≡ 0) × (present b (k .0) ≡ true)
 PlaceGood z b m (QueuedAt k) =
     Pointers z (message b m) × (fifo (message b m .prio) ≡ true) × (message b m .prio < 0xFF) × (present b (k .0) ≡ true)
+PlaceGood z b m OnTimer =
+    Pointers z (message b m) × (message b m .link ≡ 0) × (present b (message b m .sptr) ≡ true) × (message b m .prio < 0xFE)
 PlaceGood z b m (Nowhere p) = ⊥
 
 pub record Flags (s : Status) (Empty : Type 0) : Type 0 where

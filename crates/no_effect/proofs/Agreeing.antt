@@ -17,7 +17,7 @@ use Rattle.paper.specs.declared.answer.Refusal.the-variants.{WrongLength, RuleB
 use Rattle.paper.specs.declared.answer.Answer.the-variants.{Accepted}
 use Rattle.paper.specs.Rules.{passes}
 use Rattle.paper.specs.Named.{brokenRule}
-use Rattle.paper.specs.Refusals.{Test, test, no1, no2, ownRow, row, Verdict, Go, Stop, lowest}
+use Rattle.paper.specs.Refusals.{Test, test, no1, no2, ownRow, row, Verdict, Go, Stop, given}
 use Rattle.paper.specs.Outcomes.{Outcome, accepted, judge, Undispatched, body, dispatch, effect}
 use Rattle.kept.specs.Settled.{Fitting}
 use Rattle.kept.specs.Claims.{Sizes}
@@ -55,13 +55,13 @@ judge-agree z l d v w o p a e h = subst (λ (u : Verdict). Agree z (judge l v o)
 
 -- 1 and 2 apply to both or to none
 pub verdicts : (z : Size) (l d : List ℕ) (tests others : List Test) → Alike z l d → tests ≡ others
-    → lowest (no1 z l ∷ no2 z (boardOf z l) ∷ tests) ≡ lowest (no1 z d ∷ no2 z (boardOf z d) ∷ others)
+    → given (no1 z l ∷ no2 z (boardOf z l) ∷ tests) ≡ given (no1 z d ∷ no2 z (boardOf z d) ∷ others)
 verdicts z l d tests others a e =
     let long = ap (λ (n : ℕ). test WrongLength (not (eqb n (total z)))) (a .long) in
     let pass = same (passes z) (passes-bare z) (boardOf z l) (boardOf z d) (a .boards) in
     let broken = same (brokenRule z) (broken-bare z) (boardOf z l) (boardOf z d) (a .boards) in
     let rules = ap₂ (λ (r : Rule) (t : Bool). test (RuleBroken r) (not t)) broken pass in
-    λ i. lowest (long i ∷ rules i ∷ e i)
+    λ i. given (long i ∷ rules i ∷ e i)
 
 -- ---- a call that is accepted
 abbrev pub begun : Size → Board → Call → Undispatched
@@ -72,15 +72,15 @@ record Ended (z : Size) (l : List ℕ) (x : Undispatched) : Type 0 where
   ends : let d = chosen z (x .board) in dispatch z l x ≡ accepted (x .value) (d .running) (delivered z d) (bytesOf (left z d))
   returns : Returns z (left z (chosen z (x .board)))
 
-passed : (z : Size) (l : List ℕ) (b : Board) (c : ℕ) (call : Call) → lowest (row z l b c call) ≡ Go
-    → (length l ≡ total z) × (passes z b ≡ true) × (lowest (ownRow z b c call) ≡ Go)
+passed : (z : Size) (l : List ℕ) (b : Board) (c : ℕ) (call : Call) → given (row z l b c call) ≡ Go
+    → (length l ≡ total z) × (passes z b ≡ true) × (given (ownRow z b c call) ≡ Go)
 passed z l b c call g =
     let long = go-passed (no1 z l) (no2 z b ∷ ownRow z b c call) g in
     let rules = go-passed (no2 z b) (ownRow z b c call) (long .1) in
     (eqb-true _ _ (not-false _ (long .0)), not-false (passes z b) (rules .0), rules .1)
 
 ended : (z : Size) (l : List ℕ) (call : Call) → Sizes z → ((i : ℕ) → Byte (getD l i 0)) → Fitting call → let b = boardOf z l in
-    lowest (row z l b (b .running) call) ≡ Go → Ended z l (begun z b call)
+    given (row z l b (b .running) call) ≡ Go → Ended z l (begun z b call)
 ended z l call a h w g =
     let b = boardOf z l in
     let (long, rules, own) = passed z l b (b .running) call g in
@@ -118,10 +118,10 @@ module _ (z : Size) (l d : List ℕ) (call other : Call) (a : Sizes z) (h : (i :
 
   pub effects-agree : ownRow z b (b .running) call ≡ ownRow z c (c .running) other
       → begun z b call .value ≡ begun z c other .value
-      → (lowest (ownRow z b (b .running) call) ≡ Go → bareBoard (begun z b call .board) ≡ bareBoard (begun z c other .board))
+      → (given (ownRow z b (b .running) call) ≡ Go → bareBoard (begun z b call .board) ≡ bareBoard (begun z c other .board))
       → Agree z (effect z l call) (effect z d other)
   effects-agree rows values boards =
-      judge-agree z l d (lowest (row z l b (b .running) call)) (lowest (row z d c (c .running) other)) _ _ e
+      judge-agree z l d (given (row z l b (b .running) call)) (given (row z d c (c .running) other)) _ _ e
       (verdicts z l d (ownRow z b (b .running) call) (ownRow z c (c .running) other) e rows)
       (λ g n. ends-agree z l d (begun z b call) (begun z c other) values (boards (passed z l b (b .running) call g .2))
       (ended z l call a h w g) (ended z d other a k u n))

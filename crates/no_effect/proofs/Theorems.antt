@@ -7,7 +7,7 @@ use Rattle.board.specs.declared.numbers.Size.{Size}
 use Rattle.board.specs.Board.{Board, boardOf}
 use Rattle.paper.specs.declared.answer.Answer.the-variants.{Accepted}
 use Rattle.paper.specs.declared.call.Call.the-variants.{Install}
-use Rattle.paper.specs.Refusals.{no1, no2, ownRow, lowest}
+use Rattle.paper.specs.Refusals.{no1, no2, ownRow, given}
 use Rattle.paper.specs.Outcomes.{check}
 use Rattle.bare.specs.Bare.{bareBoard}
 use Rattle.kept.proofs.Reading.{install-row}
@@ -20,7 +20,7 @@ checks-agree : (z : Size) (l d : List ℕ) → Alike z l d → Agree z (check z 
 checks-agree z l d e =
     let b = boardOf z l in
     let c = boardOf z d in
-    judge-agree z l d (lowest (no1 z l ∷ no2 z b ∷ [])) (lowest (no1 z d ∷ no2 z c ∷ [])) _ _ e (verdicts z l d [] [] e refl)
+    judge-agree z l d (given (no1 z l ∷ no2 z b ∷ [])) (given (no1 z d ∷ no2 z c ∷ [])) _ _ e (verdicts z l d [] [] e refl)
     (λ g n. (ap (λ (d : Board). Accepted 0 (d .running) 0) (e .boards), e))
 
 pub debug-and-mrob-have-no-effect : DebugAndMrobHaveNoEffect

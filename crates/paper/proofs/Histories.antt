@@ -12,7 +12,7 @@ use Rattle.board.specs.Board.{total}
 use Rattle.paper.specs.declared.call.Call.{Call}
 use Rattle.paper.specs.declared.answer.Answer.{Answer}
 use Rattle.paper.specs.declared.answer.Refusal.the-variants.{WrongLength}
-use Rattle.paper.specs.Refusals.{test, lowest}
+use Rattle.paper.specs.Refusals.{test, given}
 use Rattle.paper.specs.Outcomes.{accepted, judge, blank, effect, fresh}
 use Rattle.paper.specs.History.{run, Made}
 
@@ -61,5 +61,5 @@ run-made l (call ∷ calls) =
 -- fresh on a board's length leaves zeros
 pub fresh-leaves : (l : List ℕ) → length l ≡ total small → fresh small l .after ≡ blank small
 fresh-leaves l e =
-    ap (λ (x : Bool). judge l (lowest (test WrongLength (not x) ∷ [])) (accepted 0 0 0 (blank small)) .after)
+    ap (λ (x : Bool). judge l (given (test WrongLength (not x) ∷ [])) (accepted 0 0 0 (blank small)) .after)
     (eq-eqb (length l) (total small) e)

@@ -3,14 +3,14 @@ use mathlib.Core.Path.{_≡_, refl, sym, ap, _∙_, subst}
 use mathlib.Core.Logic.{inl, inr, _↔_}
 use mathlib.Core.Bool.{Bool, true, false, _&&_, true≢false}
 use mathlib.Core.List.{List, [], _∷_}
-use Prim.Native.Nat.{ℕ, suc, _-_, _≤_}
+use Prim.Native.Nat.{ℕ, suc, _-_, _≤_, _<_}
 use native.Mathlib.Omega.{arith}
 use native.Mathlib.Decide.{ℕ-discrete}
 use lib.ListN.{length, getD}
 use lib.Dec.{leb, lit≤}
 use borrow.Author.Tests.{leb-true, leb-false, eqb-true, not-false, not-true}
 use Rattle.links.specs.Queue.{ends, which, rearranged, rising, each, smallestFailing}
-use Rattle.links.specs.Chain.{In, Out}
+use Rattle.links.specs.Chain.{In, Out, All}
 use Rattle.links.proofs.Bools.{refuted, and-true, cond-holds, each-at, each-fails}
 use Rattle.links.proofs.Smallest.{smallest-one, smallest-fails, smallest-least}
 use Rattle.links.proofs.Members.{out-not-in}
@@ -31,13 +31,13 @@ use Rattle.paper.specs.Answers.{ruleNumber, recordNumber, told, numberOf
 use Rattle.paper.specs.Rules.{nextMessage, messageNumber, queue, rules2to6, passes}
 use Rattle.paper.specs.Rules.{rule2At, rule3, rule4At, rule5At, rule6At}
 use Rattle.paper.specs.Named.{unless, broken2to6, brokenRule}
-use Rattle.paper.specs.Refusals.{Test, no1, no2By, ownRow, Verdict, lowest}
+use Rattle.paper.specs.Refusals.{Test, no1, no2By, ownRow, Verdict, given}
 use Rattle.paper.specs.Outcomes.{Outcome, accepted, judge, dispatch, body}
 use Rattle.paper.specs.Conversion.{oldPasses, oldBroken, converted}
-use Rattle.paper.specs.Claims.{Given, Names, VerdictStays, Edition, today, old, BrokenAt, NoLater, Lowest, LowestIsNamed}
+use Rattle.paper.specs.Claims.{First, Given, Names, VerdictStays, Edition, today, old, BrokenAt, NoLater, Lowest, LowestIsNamed}
 use Rattle.paper.specs.Claims.{Fault, NoEnd, Meets, Misses, Falls, WrongQueue, RuleOnlyWith2}
 use Rattle.paper.proofs.Rows.{rules-kept, rule-broken}
-use Rattle.paper.proofs.Theorems.{ascends, in-above, row-ascends, lowest-is-given, ruleAt, at-rule, number-2, others-told}
+use Rattle.paper.proofs.Theorems.{first-above, own-above, first-is-given, ruleAt, at-rule, number-2, others-told}
 use Rattle.paper.proofs.Which.{which-nth}
 
 -- ---- 2 is given where the length is right and a rule is broken, and nowhere else
@@ -47,32 +47,24 @@ module _ (z : Size) (l : List ℕ) (r : Rule) (passed : Bool) (tests : List Test
   all = no1 z l ∷ no2By r passed ∷ tests
 
   abbrev answered : Outcome → Answer
-  answered o = judge l (lowest all) o .answer
+  answered o = judge l (given all) o .answer
 
   -- there it is given, and names the rule
   gives-2 : (o : Outcome) → length l ≡ total z → passed ≡ false → answered o ≡ Refused (RuleBroken r)
   gives-2 o long broken = ap (λ (v : Verdict). judge l v o .answer) (rule-broken z l r passed tests long broken)
 
-  -- where nothing below 2 applies the length is right
-  right-length : ((t : Test) → In t all → t .applies ≡ true → 2 ≤ numberOf (t .refusal)) → length l ≡ total z
-  right-length low =
-      eqb-true (length l) (total z) (not-false _ (refuted _ (λ a. let k = low (no1 z l) (inl refl) a in omega arith)))
-
-  -- the test of number 2 is that of the rules, where those behind it are above 2
-  is-no2 : ascends 2 tests ≡ true → (t : Test) → In t all → numberOf (t .refusal) ≡ 2 → t ≡ no2By r passed
-  is-no2 above t (inl e) n = let k = ap (λ (x : Test). numberOf (x .refusal)) e in absurd (omega arith)
-  is-no2 above t (inr (inl e)) n = e
-  is-no2 above t (inr (inr i)) n = let k = in-above 2 tests above t i in absurd (omega arith)
-
-  only-there : ascends 2 tests ≡ true → (a : Answer) → Given a all → handed a .number ≡ 2
+  -- it is given nowhere else, where the tests behind it are above 2
+  only-there : All (λ t. 2 < numberOf (t .refusal)) tests → (a : Answer) → Given a all → handed a .number ≡ 2
       → (length l ≡ total z) × (passed ≡ false)
   only-there above (Accepted v c m) g n = absurd (omega arith)
-  only-there above (Refused q) g n =
-      let ((t, i, a, s), low) = g (λ e. let k = ap numberOf e in omega arith) in
-      let e = is-no2 above t i (ap numberOf s ∙ n) in
-      (right-length (λ t i a. let k = low t i a in omega arith), not-true _ (sym (ap (λ (x : Test). x .applies) e) ∙ a))
+  only-there above (Refused q) g n = go (g (λ e. let k = ap numberOf e in omega arith))
+    where
+      go : First q all → (length l ≡ total z) × (passed ≡ false)
+      go (inl (a, e)) = let k = ap numberOf e in absurd (omega arith)
+      go (inr (a, inl (b, e))) = (eqb-true (length l) (total z) (not-false _ a), not-true _ b)
+      go (inr (a, inr (b, f))) = let k = first-above 2 q tests above f in absurd (omega arith)
 
-  names : ascends 2 tests ≡ true → (o : Outcome) → Given (answered o) all → Names z l r passed (answered o)
+  pub names : All (λ t. 2 < numberOf (t .refusal)) tests → (o : Outcome) → Given (answered o) all → Names z l r passed (answered o)
   names above o g =
       let there = only-there above (answered o) g in
       ((there, λ h. ap (λ (a : Answer). handed a .number) (gives-2 o (h .0) (h .1))), λ n. gives-2 o (there n .0) (there n .1))
@@ -81,10 +73,10 @@ pub verdict-stays : VerdictStays
 verdict-stays z l =
     let b = boardOf z l in
     let c = b .running in
-    let (calls, checks, freshes, converts) = lowest-is-given z l in (
-      (λ call. names z l (brokenRule z b) (passes z b) (ownRow z b c call) (row-ascends z l b c call) (dispatch z l (body z b c call)) (calls call)),
-      names z l (brokenRule z b) (passes z b) [] refl (accepted 0 c 0 l) checks,
-      names z l (oldBroken z b) (oldPasses z b) [] refl (converted z l) converts,
+    let (calls, checks, freshes, converts) = first-is-given z l in (
+      (λ call. names z l (brokenRule z b) (passes z b) (ownRow z b c call) (own-above z l b c call) (dispatch z l (body z b c call)) (calls call)),
+      names z l (brokenRule z b) (passes z b) [] tt (accepted 0 c 0 l) checks,
+      names z l (oldBroken z b) (oldPasses z b) [] tt (converted z l) converts,
       λ long sound. ap (λ (v : Verdict). judge l v (accepted 0 c 0 l) .answer) (rules-kept z l (brokenRule z b) (passes z b) [] long sound),
     )
 
@@ -103,7 +95,7 @@ module _ (by : Edition) (z : Size) (b : Board) where
   -- the rules as tests, by their numbers
   abbrev rule : ℕ → Bool
   rule i =
-      getD (by .first ∷ each (rule2At b) (z .tasks) ∷ rule3 z b ∷ each (rule4At z b) (z .messages) ∷ each (rule5At z b) (z .tasks)
+      getD (by .first ∷ each (rule2At b) (z .tasks) ∷ rule3 z b ∷ each (by .fourth) (z .messages) ∷ each (rule5At z b) (z .tasks)
       ∷ each (rule6At b) (z .tasks) ∷ by .last ∷ []) (i - 1) true
 
   -- one that is broken at a record fails
@@ -111,7 +103,7 @@ module _ (by : Edition) (z : Size) (b : Board) where
   broken-fails R1 h = h
   broken-fails (R2 k) ((l, u), e) = each-fails (rule2At b) (z .tasks) (k .0) l u e
   broken-fails R3 h = h
-  broken-fails (R4 m) ((l, u), e) = each-fails (rule4At z b) (z .messages) (m .0) l u e
+  broken-fails (R4 m) ((l, u), e) = each-fails (by .fourth) (z .messages) (m .0) l u e
   broken-fails (R5 k) ((l, u), e) = each-fails (rule5At z b) (z .tasks) (k .0) l u e
   broken-fails (R6 k) ((l, u), e) = each-fails (rule6At b) (z .tasks) (k .0) l u e
   broken-fails (R7 c) (w, e) = e
@@ -163,23 +155,23 @@ in-a-row true true false e f r s t u v w = refl
 in-a-row true false d e f r s t u v w = refl
 in-a-row false c d e f r s t u v w = refl
 
--- R1 and R7 by the rules of today or by the old ones
-named : (by : Edition) (z : Size) (b : Board) → by .first && rules2to6 z b && by .last ≡ false
-    → Lowest by z b (unless (by .first) R1 (unless (rules2to6 z b) (broken2to6 z b) (R7 (by .told))))
+-- R1, R4 and R7 by the rules of today or by the old ones
+named : (by : Edition) (z : Size) (b : Board) → let r4 = by .fourth in by .first && rules2to6 z b r4 && by .last ≡ false
+    → Lowest by z b (unless (by .first) R1 (unless (rules2to6 z b r4) (broken2to6 z b r4) (R7 (by .told))))
 named by z b broken =
     let r2 = each (rule2At b) (z .tasks) in
-    let r4 = each (rule4At z b) (z .messages) in
+    let r4 = each (by .fourth) (z .messages) in
     let r5 = each (rule5At z b) (z .tasks) in
     let r6 = each (rule6At b) (z .tasks) in
     lowest-unless by z b 0 R1 _ refl refl (λ e. (e, λ n h. omega arith))
     (λ h. subst (Lowest by z b) (sym (in-a-row r2 (rule3 z b) r4 r5 r6 _ _ _ _ _ (R7 (by .told))))
     (lowest-unless by z b 1 (R2 _) _ h refl (smallest (rule2At b) (z .tasks))
     (λ h. lowest-unless by z b 2 R3 _ h refl (λ e. (e, λ n h. omega arith))
-    (λ h. lowest-unless by z b 3 (R4 _) _ h refl (smallest (rule4At z b) (z .messages))
+    (λ h. lowest-unless by z b 3 (R4 _) _ h refl (smallest (by .fourth) (z .messages))
     (λ h. lowest-unless by z b 4 (R5 _) _ h refl (smallest (rule5At z b) (z .tasks))
     (λ h. lowest-unless by z b 5 (R6 _) _ h refl (smallest (rule6At b) (z .tasks))
     (λ h. let six = regrouped (by .first) r2 (rule3 z b) r4 r5 r6 h in
-    let e = refuted (by .last) (λ e. true≢false (sym (and-true (by .first && rules2to6 z b) (by .last) six e) ∙ broken)) in
+    let e = refuted (by .last) (λ e. true≢false (sym (and-true (by .first && rules2to6 z b (by .fourth)) (by .last) six e) ∙ broken)) in
     lowest-of by z b (R7 _) h ((refl, e), λ n (w, g). omega arith))))))))
 
 pub lowest-is-named : LowestIsNamed

@@ -12,30 +12,30 @@ use Rattle.paper.specs.declared.answer.Rule.{Rule}
 use Rattle.paper.specs.declared.answer.Refusal.the-variants.{RuleBroken}
 use Rattle.paper.specs.Rules.{passes}
 use Rattle.paper.specs.Named.{brokenRule}
-use Rattle.paper.specs.Refusals.{Test, no1, no2By, ownRow, row, Stop, lowest}
+use Rattle.paper.specs.Refusals.{Test, no1, no2By, ownRow, row, Stop, given}
 
 -- a test that applies stops
-pub lowest-stop : (t : Test) (tests : List Test) → t .applies ≡ true → lowest (t ∷ tests) ≡ Stop (t .refusal)
-lowest-stop t tests e = rw (e, lowest)
+pub given-stop : (t : Test) (tests : List Test) → t .applies ≡ true → given (t ∷ tests) ≡ Stop (t .refusal)
+given-stop t tests e = rw (e, given)
 
 -- one that does not is passed
-pub lowest-on : (t : Test) (tests : List Test) → t .applies ≡ false → lowest (t ∷ tests) ≡ lowest tests
-lowest-on t tests e = rw (e, lowest)
+pub given-on : (t : Test) (tests : List Test) → t .applies ≡ false → given (t ∷ tests) ≡ given tests
+given-on t tests e = rw (e, given)
 
 -- on a board of the right length that passes, refusals 1 and 2 are passed
 pub rules-kept : (z : Size) (l : List ℕ) (r : Rule) (t : Bool) (tests : List Test) → length l ≡ total z → t ≡ true
-    → lowest (no1 z l ∷ no2By r t ∷ tests) ≡ lowest tests
+    → given (no1 z l ∷ no2By r t ∷ tests) ≡ given tests
 rules-kept z l r t tests long sound =
-    lowest-on (no1 z l) (no2By r t ∷ tests) (ap not (eq-eqb (length l) (total z) long))
-    ∙ lowest-on (no2By r t) tests (ap not sound)
+    given-on (no1 z l) (no2By r t ∷ tests) (ap not (eq-eqb (length l) (total z) long))
+    ∙ given-on (no2By r t) tests (ap not sound)
 
 pub row-own : (z : Size) (l : List ℕ) (b : Board) (c : ℕ) (call : Call) → length l ≡ total z → passes z b ≡ true
-    → lowest (row z l b c call) ≡ lowest (ownRow z b c call)
+    → given (row z l b c call) ≡ given (ownRow z b c call)
 row-own z l b c call = rules-kept z l (brokenRule z b) (passes z b) (ownRow z b c call)
 
 -- where it does not pass, 2 stops
 pub rule-broken : (z : Size) (l : List ℕ) (r : Rule) (t : Bool) (tests : List Test) → length l ≡ total z → t ≡ false
-    → lowest (no1 z l ∷ no2By r t ∷ tests) ≡ Stop (RuleBroken r)
+    → given (no1 z l ∷ no2By r t ∷ tests) ≡ Stop (RuleBroken r)
 rule-broken z l r t tests long broken =
-    lowest-on (no1 z l) (no2By r t ∷ tests) (ap not (eq-eqb (length l) (total z) long))
-    ∙ lowest-stop (no2By r t) tests (ap not broken)
+    given-on (no1 z l) (no2By r t ∷ tests) (ap not (eq-eqb (length l) (total z) long))
+    ∙ given-stop (no2By r t) tests (ap not broken)

@@ -8,8 +8,9 @@ use native.Mathlib.Omega.{arith}
 use lib.ListN.{getD}
 use lib.Dec.{eqb, ltb}
 use borrow.Author.Tests.{ltb-true, eqb-true, ne-eqb, not-false}
-use Rattle.links.specs.Chain.{In}
+use Rattle.links.specs.Chain.{All}
 use Rattle.links.proofs.Bools.{both, cond-holds, every}
+use Rattle.links.proofs.Members.{all-map}
 use Rattle.board.specs.declared.numbers.Size.{Size}
 use Rattle.board.specs.Numbers.{taskNo, msgNo}
 use Rattle.board.specs.Status.{MHBS, has}
@@ -22,16 +23,16 @@ use Rattle.paper.specs.declared.answer.Rule.the-variants.{R1, R2, R3, R4
 use Rattle.paper.specs.declared.answer.Refusal.{Refusal}
 use Rattle.paper.specs.declared.answer.Refusal.the-variants.{WrongLength, RuleBroken, NobodyRuns, NoSuchMessage, NotHeld, NoSuchTask}
 use Rattle.paper.specs.declared.answer.Refusal.the-variants.{BadPriority, NotInstallable, BadStatus, TaskBusy, NoneFree, NotQueued}
-use Rattle.paper.specs.declared.answer.Refusal.the-variants.{NotItsSender, BadSender, NothingToDeliver}
+use Rattle.paper.specs.declared.answer.Refusal.the-variants.{NotItsSender, BadSender, NothingToDeliver, NoDelay, NoTimerFree, BadTimer}
 use Rattle.paper.specs.declared.answer.Answer.{Answer}
 use Rattle.paper.specs.declared.answer.Answer.the-variants.{Accepted, Refused}
 use Rattle.paper.specs.Answers.{ruleNumber, recordNumber, Told, told, numberOf, Handed, handed}
 use Rattle.paper.specs.Rules.{emptyQueue, runsNext, passes}
 use Rattle.paper.specs.Named.{brokenRule}
-use Rattle.paper.specs.Refusals.{Test, no1, no2By, no2, ownRow, row, Verdict, Go, Stop, lowest}
+use Rattle.paper.specs.Refusals.{Test, no1, no2By, no2, ownRow, row, Verdict, Go, Stop, given}
 use Rattle.paper.specs.Outcomes.{Outcome, Undispatched, accepted, refused, judge, deliver, dispatchTo, dispatch, body, blank, effect, check}
 use Rattle.paper.specs.Conversion.{oldPasses, oldBroken, oldNo2, converted, convert}
-use Rattle.paper.specs.Claims.{NoSecondOutcome, Unchanged, RefusalChangesNothing, Only, AcceptedPassed, Given, LowestIsGiven, HandedTells}
+use Rattle.paper.specs.Claims.{NoSecondOutcome, Unchanged, RefusalChangesNothing, Only, AcceptedPassed, First, Given, FirstIsGiven, Ascends, RowsAscend, HandedTells}
 use Rattle.paper.specs.Claims.{FreshInstallAccepted, AnswersDiffer, InstallWrites}
 
 pub no-second-outcome : NoSecondOutcome
@@ -60,23 +61,35 @@ unchanged-dispatch z l d c =
 
 pub refusal-changes-nothing : RefusalChangesNothing
 refusal-changes-nothing z l = let b = boardOf z l in let c = b .running in (
-  (λ call. unchanged-judge l (lowest (row z l b c call)) (dispatch z l (body z b c call))
+  (λ call. unchanged-judge l (given (row z l b c call)) (dispatch z l (body z b c call))
       (unchanged-dispatch z l _ (runsNext z (body z b c call .board)))),
-  unchanged-judge l (lowest (no1 z l ∷ no2 z b ∷ [])) (accepted 0 c 0 l) (unchanged-accepted 0 c 0 l l),
-  unchanged-judge l (lowest (no1 z l ∷ [])) (accepted 0 0 0 (blank z)) (unchanged-accepted 0 0 0 l (blank z)),
-  unchanged-judge l (lowest (no1 z l ∷ oldNo2 z b ∷ [])) (converted z l) (unchanged-accepted _ _ _ l _),
+  unchanged-judge l (given (no1 z l ∷ no2 z b ∷ [])) (accepted 0 c 0 l) (unchanged-accepted 0 c 0 l l),
+  unchanged-judge l (given (no1 z l ∷ [])) (accepted 0 0 0 (blank z)) (unchanged-accepted 0 0 0 l (blank z)),
+  unchanged-judge l (given (no1 z l ∷ oldNo2 z b ∷ [])) (converted z l) (unchanged-accepted _ _ _ l _),
 )
 
--- ---- the lowest is given
+-- ---- the first of the row is given
 -- what a verdict on tests says
 abbrev Decided : Verdict → List Test → Type 0
-Decided Go tests = (t : Test) → In t tests → t .applies ≡ false
-Decided (Stop q) tests =
-    ((t : Test) × In t tests × (t .applies ≡ true) × (t .refusal ≡ q))
-    × ((t : Test) → In t tests → t .applies ≡ true → numberOf q ≤ numberOf (t .refusal))
+Decided Go tests = All (λ t. t .applies ≡ false) tests
+Decided (Stop q) tests = First q tests
 
+decided : (tests : List Test) → Decided (given tests) tests
+decided [] = tt
+decided (t ∷ tests) = go (t .applies) refl (decided tests)
+  where
+    behind : (v : Verdict) → t .applies ≡ false → Decided v tests → Decided v (t ∷ tests)
+    behind Go e h = (e, h)
+    behind (Stop q) e h = inr (e, h)
+
+    go : (v : Bool) → t .applies ≡ v → Decided (given tests) tests
+        → Decided (elim v [ true ↦ Stop (t .refusal) | false ↦ given tests ]) (t ∷ tests)
+    go true e h = inl (e, refl)
+    go false e h = behind (given tests) e h
+
+-- ---- the rows ascend
 -- the numbers of the tests ascend from above n, and stay below 15
-abbrev pub ascends : ℕ → List Test → Bool
+abbrev ascends : ℕ → List Test → Bool
 ascends n [] = ltb n 15
 ascends n (t ∷ tests) = ltb n (numberOf (t .refusal)) && ascends (numberOf (t .refusal)) tests
 
@@ -87,40 +100,23 @@ ascends-on n t tests h =
     let r = both (ltb n (numberOf (t .refusal))) (ascends (numberOf (t .refusal)) tests) h in (ltb-true n _ (r .0), r .1)
 
 -- so each is above n
-pub in-above : (n : ℕ) (tests : List Test) → ascends n tests ≡ true → (t : Test) → In t tests → n < numberOf (t .refusal)
-in-above n [] h t i = absurd i
-in-above n (s ∷ tests) h t (inl e) =
-    let k = ascends-on n s tests h .0 in let q = ap (λ (x : Test). numberOf (x .refusal)) e in omega arith
-in-above n (s ∷ tests) h t (inr i) =
-    let k = ascends-on n s tests h in let q = in-above _ tests (k .1) t i in omega (arith, k .0)
+all-above : (n : ℕ) (tests : List Test) → ascends n tests ≡ true → All (λ t. n < numberOf (t .refusal)) tests
+all-above n [] h = tt
+all-above n (t ∷ tests) h =
+    let k = ascends-on n t tests h in
+    (k .0, all-map (λ u i. omega (arith, i, k .0)) tests (all-above (numberOf (t .refusal)) tests (k .1)))
 
-decided : (n : ℕ) (tests : List Test) → ascends n tests ≡ true → Decided (lowest tests) tests
-decided n [] h = λ t i. absurd i
-decided n (s ∷ tests) h = go (s .applies) refl (decided _ tests (ascends-on n s tests h .1))
-  where
-    goes : s .applies ≡ false → Decided Go tests → Decided Go (s ∷ tests)
-    goes e g t (inl q) = ap (λ (x : Test). x .applies) q ∙ e
-    goes e g t (inr i) = g t i
+-- and so is the first of them that applies
+pub first-above : (n : ℕ) (q : Refusal) (tests : List Test) → All (λ t. n < numberOf (t .refusal)) tests → First q tests
+    → n < numberOf q
+first-above n q [] h f = absurd f
+first-above n q (t ∷ tests) h (inl (a, e)) = let k = ap numberOf e in omega (arith, h .0)
+first-above n q (t ∷ tests) h (inr (a, f)) = first-above n q tests (h .1) f
 
-    stops : (q : Refusal) → s .applies ≡ false → Decided (Stop q) tests → Decided (Stop q) (s ∷ tests)
-    stops q e ((t, i, a, r), g) = ((t, inr i, a, r), below)
-      where
-        below : (t : Test) → In t (s ∷ tests) → t .applies ≡ true → numberOf q ≤ numberOf (t .refusal)
-        below t (inl p) a = absurd (true≢false (sym a ∙ ap (λ (x : Test). x .applies) p ∙ e))
-        below t (inr i) a = g t i a
-
-    behind : (v : Verdict) → s .applies ≡ false → Decided v tests → Decided v (s ∷ tests)
-    behind Go e g = goes e g
-    behind (Stop q) e g = stops q e g
-
-    none-lower : (t : Test) → In t (s ∷ tests) → t .applies ≡ true → numberOf (s .refusal) ≤ numberOf (t .refusal)
-    none-lower t (inl q) a = let p = ap (λ (x : Test). numberOf (x .refusal)) q in omega arith
-    none-lower t (inr i) a = let k = in-above (numberOf (s .refusal)) tests (ascends-on n s tests h .1) t i in omega arith
-
-    go : (v : Bool) → s .applies ≡ v → Decided (lowest tests) tests
-        → Decided (elim v [ true ↦ Stop (s .refusal) | false ↦ lowest tests ]) (s ∷ tests)
-    go true e g = ((s, inl refl, e, refl), none-lower)
-    go false e g = behind (lowest tests) e g
+ascending : (n : ℕ) (tests : List Test) → ascends n tests ≡ true → Ascends tests
+ascending n [] h = tt
+ascending n (t ∷ tests) h =
+    let k = ascends-on n t tests h .1 in (all-above _ tests k, ascending (numberOf (t .refusal)) tests k)
 
 -- what each of a list passes, and any other, the one at i passes
 every-at : {A : Type 0} (test : A → Bool) (l : List A) (other : A) → test other ≡ true → every test l ≡ true → (i : ℕ)
@@ -130,35 +126,39 @@ every-at test (x ∷ l) other o h zero = both (test x) (every test l) h .0
 every-at test (x ∷ l) other o h (suc i) = every-at test l other o (both (test x) (every test l) h .1) i
 
 -- every row of the table of calls ascends: computed for the calls of all kinds, and a call is one of them
-pub row-ascends : (z : Size) (l : List ℕ) (b : Board) (c : ℕ) (call : Call) → ascends 0 (row z l b c call) ≡ true
+row-ascends : (z : Size) (l : List ℕ) (b : Board) (c : ℕ) (call : Call) → ascends 0 (row z l b c call) ≡ true
 row-ascends z l b c call =
     let test : Call → Bool = λ x. ascends 0 (row z l b c x) in
     let a = argumentsOf call in
     subst (λ (x : Call). test x ≡ true) (a .again) (every-at test (callsOf _ _ _ _ _) (Find 0) refl refl (a .kind - 1))
+
+-- those of a call's own are above 2
+pub own-above : (z : Size) (l : List ℕ) (b : Board) (c : ℕ) (call : Call) → All (λ t. 2 < numberOf (t .refusal)) (ownRow z b c call)
+own-above z l b c call = all-above 2 (ownRow z b c call) (row-ascends z l b c call)
 
 -- ---- no row gives 15
 ascend-below : (n : ℕ) (tests : List Test) → ascends n tests ≡ true → n < 15
 ascend-below n [] h = ltb-true n 15 h
 ascend-below n (t ∷ tests) h = let k = ascends-on n t tests h in let q = ascend-below _ tests (k .1) in omega (arith, k .0)
 
-stop-below : (n : ℕ) (tests : List Test) → ascends n tests ≡ true → (q : Refusal) → lowest tests ≡ Stop q → numberOf q < 15
+stop-below : (n : ℕ) (tests : List Test) → ascends n tests ≡ true → (q : Refusal) → given tests ≡ Stop q → numberOf q < 15
 stop-below n [] h q = λ e. let z : _≡_ {A = ℕ} 0 1 = cc in absurd (omega arith)
 stop-below n (t ∷ tests) h q = go (t .applies) (stop-below _ tests (ascends-on n t tests h .1) q)
   where
-    go : (v : Bool) → (lowest tests ≡ Stop q → numberOf q < 15)
-        → elim v [ true ↦ Stop (t .refusal) | false ↦ lowest tests ] ≡ Stop q → numberOf q < 15
+    go : (v : Bool) → (given tests ≡ Stop q → numberOf q < 15)
+        → elim v [ true ↦ Stop (t .refusal) | false ↦ given tests ] ≡ Stop q → numberOf q < 15
     go true ih e = let p : t .refusal ≡ q = cc in subst (λ (r : Refusal). numberOf r < 15) p (ascend-below _ tests (ascends-on n t tests h .1))
     go false ih e = ih e
 
-pub row-below : (z : Size) (l : List ℕ) (b : Board) (c : ℕ) (call : Call) (q : Refusal) → lowest (row z l b c call) ≡ Stop q
+pub row-below : (z : Size) (l : List ℕ) (b : Board) (c : ℕ) (call : Call) (q : Refusal) → given (row z l b c call) ≡ Stop q
     → numberOf q < 15
 row-below z l b c call = stop-below 0 (row z l b c call) (row-ascends z l b c call)
 
 -- what the verdict says, the answer says; where none applies dispatch answers, and its refusal is 15
 module _ (tests : List Test) where
-  given-judged : ascends 0 tests ≡ true → (l : List ℕ) (o : Outcome) → (Decided Go tests → Given (o .answer) tests)
-      → Given (judge l (lowest tests) o .answer) tests
-  given-judged a l o h = step (lowest tests) (decided 0 tests a)
+  given-judged : (l : List ℕ) (o : Outcome) → (Decided Go tests → Given (o .answer) tests)
+      → Given (judge l (given tests) o .answer) tests
+  given-judged l o h = step (given tests) (decided tests)
     where
       step : (v : Verdict) → Decided v tests → Given (judge l v o .answer) tests
       step Go d = h d
@@ -169,14 +169,21 @@ module _ (tests : List Test) where
       cond-holds (λ (o : Outcome). Given (o .answer) tests) (has (task (d .board) c .stat) MHBS) _ _
       (λ e. cond-holds (λ (o : Outcome). Given (o .answer) tests) (emptyQueue (d .board) c) _ _ (λ i n. absurd (n refl)) (λ i. h)) (λ e. h)
 
-pub lowest-is-given : LowestIsGiven
-lowest-is-given z l = let b = boardOf z l in let c = b .running in (
+pub first-is-given : FirstIsGiven
+first-is-given z l = let b = boardOf z l in let c = b .running in (
   (λ call. let d = body z b c call in
-      given-judged (row z l b c call) (row-ascends z l b c call) l (dispatch z l d)
-      (given-dispatched (row z l b c call) z l _ (runsNext z (d .board)))),
-  given-judged (no1 z l ∷ no2 z b ∷ []) refl l (accepted 0 c 0 l) (λ h. h),
-  given-judged (no1 z l ∷ []) refl l (accepted 0 0 0 (blank z)) (λ h. h),
-  given-judged (no1 z l ∷ oldNo2 z b ∷ []) refl l (converted z l) (λ h. h),
+      given-judged (row z l b c call) l (dispatch z l d) (given-dispatched (row z l b c call) z l _ (runsNext z (d .board)))),
+  given-judged (no1 z l ∷ no2 z b ∷ []) l (accepted 0 c 0 l) (λ h. h),
+  given-judged (no1 z l ∷ []) l (accepted 0 0 0 (blank z)) (λ h. h),
+  given-judged (no1 z l ∷ oldNo2 z b ∷ []) l (converted z l) (λ h. h),
+)
+
+pub rows-ascend : RowsAscend
+rows-ascend z l b = (
+  (λ c call. ascending 0 (row z l b c call) (row-ascends z l b c call)),
+  ascending 0 (no1 z l ∷ no2 z b ∷ []) refl,
+  ascending 0 (no1 z l ∷ []) refl,
+  ascending 0 (no1 z l ∷ oldNo2 z b ∷ []) refl,
 )
 
 -- ---- accepted means that the board passed: 1 and 2 did not apply
@@ -185,10 +192,10 @@ only-passing : (z : Size) (l : List ℕ) (test : Size → Board → Bool) (r : R
 only-passing z l test r tests o g v c m e =
     let second : Test = no2By r (test z (boardOf z l)) in
     let none = subst (λ (a : Answer). Given a (no1 z l ∷ second ∷ tests)) e g in
-    (eqb-true _ _ (not-false _ (none (no1 z l) (inl refl))), not-false _ (none second (inr (inl refl))))
+    (eqb-true _ _ (not-false _ (none .0)), not-false _ (none .1 .0))
 
 pub accepted-passed : AcceptedPassed
-accepted-passed z l = let b = boardOf z l in let (calls, checks, freshes, converts) = lowest-is-given z l in (
+accepted-passed z l = let b = boardOf z l in let (calls, checks, freshes, converts) = first-is-given z l in (
   (λ call. only-passing z l passes (brokenRule z b) (ownRow z b (b .running) call) (effect z l call) (calls call)),
   only-passing z l passes (brokenRule z b) [] (check z l) checks,
   only-passing z l oldPasses (oldBroken z b) [] (convert z l) converts,
@@ -205,7 +212,7 @@ ruleAt i n = getD (rules n) (i - 1) R1
 abbrev refusals : Rule → List Refusal
 refusals r =
     WrongLength ∷ RuleBroken r ∷ NobodyRuns ∷ NoSuchMessage ∷ NotHeld ∷ NoSuchTask ∷ BadPriority ∷ NotInstallable ∷ BadStatus ∷ TaskBusy
-    ∷ NoneFree ∷ NotQueued ∷ NotItsSender ∷ BadSender ∷ NothingToDeliver ∷ []
+    ∷ NoneFree ∷ NotQueued ∷ NotItsSender ∷ BadSender ∷ NothingToDeliver ∷ NoDelay ∷ NoTimerFree ∷ BadTimer ∷ []
 
 abbrev refusalOf : Told → Refusal
 refusalOf t = getD (refusals (ruleAt (t .rule) (t .recordNo))) (t .number - 1) WrongLength
@@ -236,6 +243,9 @@ at-number NotQueued = refl
 at-number NotItsSender = refl
 at-number BadSender = refl
 at-number NothingToDeliver = refl
+at-number NoDelay = refl
+at-number NoTimerFree = refl
+at-number BadTimer = refl
 
 -- so what is computed of each is so of any
 every-refusal : (test : Refusal → Bool) → ((r : Rule) → every test (refusals r) ≡ true) → (q : Refusal) → test q ≡ true
@@ -244,12 +254,12 @@ every-refusal test h q =
     subst (λ (x : Refusal). test x ≡ true) (at-number q)
     (every-at test (refusals _) WrongLength (both _ _ l .0) l (numberOf q - 1))
 
--- its number is from 1 to 15
-pub refusal-number : (q : Refusal) → (0 < numberOf q) × (numberOf q < 16)
+-- its number is from 1 to 18
+pub refusal-number : (q : Refusal) → (0 < numberOf q) × (numberOf q < 19)
 refusal-number q =
-    let t = every-refusal (λ r. ltb 0 (numberOf r) && ltb (numberOf r) 16) (λ r. refl) q in
-    let r = both (ltb 0 (numberOf q)) (ltb (numberOf q) 16) t in
-    (ltb-true 0 (numberOf q) (r .0), ltb-true (numberOf q) 16 (r .1))
+    let t = every-refusal (λ r. ltb 0 (numberOf r) && ltb (numberOf r) 19) (λ r. refl) q in
+    let r = both (ltb 0 (numberOf q)) (ltb (numberOf q) 19) t in
+    (ltb-true 0 (numberOf q) (r .0), ltb-true (numberOf q) 19 (r .1))
 
 -- 2 is a broken rule
 pub number-2 : (q : Refusal) → numberOf q ≡ 2 → (r : Rule) × (q ≡ RuleBroken r)

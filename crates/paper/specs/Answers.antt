@@ -9,7 +9,7 @@ use Rattle.paper.specs.declared.answer.Rule.the-variants.{R1, R2, R3, R4
 use Rattle.paper.specs.declared.answer.Refusal.{Refusal}
 use Rattle.paper.specs.declared.answer.Refusal.the-variants.{WrongLength, RuleBroken, NobodyRuns, NoSuchMessage, NotHeld, NoSuchTask}
 use Rattle.paper.specs.declared.answer.Refusal.the-variants.{BadPriority, NotInstallable, BadStatus, TaskBusy, NoneFree, NotQueued}
-use Rattle.paper.specs.declared.answer.Refusal.the-variants.{NotItsSender, BadSender, NothingToDeliver}
+use Rattle.paper.specs.declared.answer.Refusal.the-variants.{NotItsSender, BadSender, NothingToDeliver, NoDelay, NoTimerFree, BadTimer}
 use Rattle.paper.specs.declared.answer.Answer.{Answer}
 use Rattle.paper.specs.declared.answer.Answer.the-variants.{Accepted, Refused}
 
@@ -57,6 +57,9 @@ told NotQueued = only 12
 told NotItsSender = only 13
 told BadSender = only 14
 told NothingToDeliver = only 15
+told NoDelay = only 16
+told NoTimerFree = only 17
+told BadTimer = only 18
 
 abbrev pub numberOf : Refusal → ℕ
 numberOf q = told q .number

@@ -3,8 +3,9 @@
 --   RefusalChangesNothing   a refused call, check, fresh or conversion leaves every byte
 --   AcceptedPassed      a call or a check is accepted only of bytes of the board's length whose board passes; a conversion only of such
 --                       bytes whose board passes the old rules
---   LowestIsGiven       the refusal that a call, check, fresh or conversion gives stands in its row and applies, and none of a lower number
---                       does; none is given only where none applies
+--   FirstIsGiven        the refusal that a call, check, fresh or conversion gives is the first of its row that applies; none is given
+--                       only where none applies
+--   RowsAscend          the numbers of each of these rows ascend, so that the first that applies is the lowest
 --   VerdictStays        2 is given exactly where the length is right and a rule is broken, and names what brokenRule says, by the conversion
 --                       what oldBroken says; a board that passes is accepted, with byte 1 as the running task
 --   BrokenAt by z b r   the rule r is broken at the record that it names, by the rules of today or by the old ones; NoLater r s: r is a
@@ -24,7 +25,7 @@ use mathlib.Core.List.{List, [], _∷_}
 use Prim.Native.Nat.{ℕ, _≤_, _<_}
 use lib.ListN.{length}
 use Rattle.links.specs.Queue.{ends, rising}
-use Rattle.links.specs.Chain.{In, Out}
+use Rattle.links.specs.Chain.{In, Out, All}
 use Rattle.board.specs.declared.numbers.Size.{Size}
 use Rattle.board.specs.Numbers.{small, Numbered}
 use Rattle.board.specs.Places.{isQueuedAt}
@@ -43,7 +44,7 @@ use Rattle.paper.specs.Rules.{rule1, rule2At, rule3, rule4At, rule5At, r
 use Rattle.paper.specs.Named.{brokenRule}
 use Rattle.paper.specs.Refusals.{Test, no1, no2, row}
 use Rattle.paper.specs.Outcomes.{Outcome, Ends, effect, fresh, check, blank}
-use Rattle.paper.specs.Conversion.{oldRule1, oldRule7, oldPasses, oldBroken, oldNo2, convert}
+use Rattle.paper.specs.Conversion.{oldRule1, oldRule4At, oldRule7, oldPasses, oldBroken, oldNo2, convert}
 
 abbrev pub NoSecondOutcome : Type 0
 NoSecondOutcome = (o : Outcome) (a e : Answer) (l m : List ℕ) → Ends a l o → Ends e m o → (a ≡ e) × (l ≡ m)
@@ -66,21 +67,33 @@ AcceptedPassed =
     (z : Size) (l : List ℕ)
     → ((call : Call) → Only passes z l (effect z l call)) × Only passes z l (check z l) × Only oldPasses z l (convert z l)
 
--- ---- the lowest is given; 15 is found at dispatch and stands in no row
-abbrev pub Given : Answer → List Test → Type 0
-Given (Accepted v c m) tests = (t : Test) → In t tests → t .applies ≡ false
-Given (Refused q) tests =
-    q ≢ NothingToDeliver
-    → ((t : Test) × In t tests × (t .applies ≡ true) × (t .refusal ≡ q))
-    × ((t : Test) → In t tests → t .applies ≡ true → numberOf q ≤ numberOf (t .refusal))
+-- ---- the first of the row is given; 15 is found at dispatch and stands in no row
+-- q is the first of these that applies
+abbrev pub First : Refusal → List Test → Type 0
+First q [] = ⊥
+First q (t ∷ tests) = ((t .applies ≡ true) × (t .refusal ≡ q)) ⊎ ((t .applies ≡ false) × First q tests)
 
-abbrev pub LowestIsGiven : Type 0
-LowestIsGiven =
+abbrev pub Given : Answer → List Test → Type 0
+Given (Accepted v c m) tests = All (λ t. t .applies ≡ false) tests
+Given (Refused q) tests = q ≢ NothingToDeliver → First q tests
+
+abbrev pub FirstIsGiven : Type 0
+FirstIsGiven =
     (z : Size) (l : List ℕ) → let b = boardOf z l in
     ((call : Call) → Given (effect z l call .answer) (row z l b (b .running) call))
     × Given (check z l .answer) (no1 z l ∷ no2 z b ∷ [])
     × Given (fresh z l .answer) (no1 z l ∷ [])
     × Given (convert z l .answer) (no1 z l ∷ oldNo2 z b ∷ [])
+
+abbrev pub Ascends : List Test → Type 0
+Ascends [] = Unit {0}
+Ascends (t ∷ tests) = All (λ u. numberOf (t .refusal) < numberOf (u .refusal)) tests × Ascends tests
+
+abbrev pub RowsAscend : Type 0
+RowsAscend =
+    (z : Size) (l : List ℕ) (b : Board)
+    → ((c : ℕ) (call : Call) → Ascends (row z l b c call))
+    × Ascends (no1 z l ∷ no2 z b ∷ []) × Ascends (no1 z l ∷ []) × Ascends (no1 z l ∷ oldNo2 z b ∷ [])
 
 -- ---- which rule, and at which record
 -- 2 is given exactly where the length is right and the board does not pass, and it names r
@@ -96,23 +109,24 @@ VerdictStays =
     × Names z l (oldBroken z b) (oldPasses z b) (convert z l .answer)
     × (length l ≡ total z → passes z b ≡ true → check z l .answer ≡ Accepted 0 (b .running) 0)
 
--- R1 and R7 and the record that R7 is told with, in an edition of the rules: today's, and the old one of saved boards
+-- R1, R4 and R7 and the record that R7 is told with, in an edition of the rules: today's, and the old one of saved boards
 pub record Edition : Type 0 where
   pub first : Bool
+  pub fourth : ℕ → Bool
   pub last : Bool
   pub told : ℕ
 
 abbrev pub today : Size → Board → Edition
-today z b = record { first = rule1 b; last = rule7 z b; told = b .running }
+today z b = record { first = rule1 b; fourth = rule4At z b; last = rule7 z b; told = b .running }
 
 abbrev pub old : Size → Board → Edition
-old z b = record { first = oldRule1 b; last = oldRule7 z b; told = firstReady z b }
+old z b = record { first = oldRule1 b; fourth = oldRule4At z b; last = oldRule7 z b; told = firstReady z b }
 
 abbrev pub BrokenAt : Edition → Size → Board → Rule → Type 0
 BrokenAt by z b R1 = by .first ≡ false
 BrokenAt by z b (R2 k) = Numbered (z .tasks) (k .0) × (rule2At b (k .0) ≡ false)
 BrokenAt by z b R3 = rule3 z b ≡ false
-BrokenAt by z b (R4 m) = Numbered (z .messages) (m .0) × (rule4At z b (m .0) ≡ false)
+BrokenAt by z b (R4 m) = Numbered (z .messages) (m .0) × (by .fourth (m .0) ≡ false)
 BrokenAt by z b (R5 k) = Numbered (z .tasks) (k .0) × (rule5At z b (k .0) ≡ false)
 BrokenAt by z b (R6 k) = Numbered (z .tasks) (k .0) × (rule6At b (k .0) ≡ false)
 BrokenAt by z b (R7 c) = (c ≡ by .told) × (by .last ≡ false)

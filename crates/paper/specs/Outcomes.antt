@@ -27,7 +27,7 @@ use Rattle.paper.specs.Rules.{queue, emptyQueue, runsNext}
 use Rattle.paper.specs.Changes.{clears, takeFirst}
 use Rattle.paper.specs.Effects.{send, resend, forward, giveBack, waits, cancelMessage, install, cancelTask, post, waitInterrupt}
 use Rattle.paper.specs.Effects.{lowestFree, claim, release, prepare, find}
-use Rattle.paper.specs.Refusals.{no1, no2, row, Verdict, Go, Stop, lowest}
+use Rattle.paper.specs.Refusals.{no1, no2, row, Verdict, Go, Stop, given}
 
 -- ---- the answer and all bytes afterwards
 pub record Outcome : Type 0 where
@@ -90,7 +90,7 @@ dispatch z l d = let c = runsNext z (d .board) in dispatchTo z l (undispatched (
 
 -- ---- a call
 abbrev pub called : Size → List ℕ → Board → ℕ → Call → Outcome
-called z l b c call = judge l (lowest (row z l b c call)) (dispatch z l (body z b c call))
+called z l b c call = judge l (given (row z l b c call)) (dispatch z l (body z b c call))
 
 abbrev pub effect : Size → List ℕ → Call → Outcome
 effect z l call = let b = boardOf z l in called z l b (b .running) call
@@ -100,10 +100,10 @@ abbrev pub blank : Size → List ℕ
 blank z = replicate (total z) 0
 
 abbrev pub fresh : Size → List ℕ → Outcome
-fresh z l = judge l (lowest (no1 z l ∷ [])) (accepted 0 0 0 (blank z))
+fresh z l = judge l (given (no1 z l ∷ [])) (accepted 0 0 0 (blank z))
 
 abbrev pub check : Size → List ℕ → Outcome
-check z l = let b = boardOf z l in judge l (lowest (no1 z l ∷ no2 z b ∷ [])) (accepted 0 (b .running) 0 l)
+check z l = let b = boardOf z l in judge l (given (no1 z l ∷ no2 z b ∷ [])) (accepted 0 (b .running) 0 l)
 
 -- ---- contracts
 pub record Ends (a : Answer) (l : List ℕ) (o : Outcome) : Type 0 where

@@ -1,19 +1,20 @@
 -- Document 01, the two tables of refusals: when each number applies, and which numbers a call can give. A reader must believe this file.
 -- 15 stands in no row here: it is found at dispatch, see Outcomes.
 --   noN ..              refusal N, and whether it applies
---   row z l b c call    the refusals of that call, ascending, on the bytes l that are the board b, with c running; ownRow those after 1 and 2
---   lowest tests        the lowest that applies, or that the call may go on
+--   row z l b c call    the refusals of that call, ascending, on the bytes l that are the board b, with c running; ownRow those after 1
+--                       and 2
+--   given tests         the first that applies, or that the call may go on; of a row that ascends it is the lowest
 -- Assumes nothing.
-use mathlib.Core.Bool.{Bool, true, false, not, _||_}
+use mathlib.Core.Bool.{Bool, true, false, not, _&&_, _||_}
 use mathlib.Core.List.{List, [], _∷_}
 use Prim.Native.Nat.{ℕ}
 use lib.ListN.{length}
 use lib.Dec.{eqb, ltb}
-use Rattle.links.specs.Queue.{firstOf, which}
+use Rattle.links.specs.Queue.{firstOf, which, each}
 use Rattle.board.specs.declared.numbers.Size.{Size}
 use Rattle.board.specs.Numbers.{outside}
 use Rattle.board.specs.Status.{WAIT, IWAT, BIT5, INTQ, MHBS, TCBB, stored, has, number}
-use Rattle.board.specs.Places.{isHeldBy, isQueuedAt}
+use Rattle.board.specs.Places.{isHeldBy, isQueuedAt, isOnTimer}
 use Rattle.board.specs.Board.{Board, total, task, message, place}
 use Rattle.paper.specs.declared.call.Call.{Call}
 use Rattle.paper.specs.declared.call.Call.the-variants.{Install, PostInterrupt, Find, CancelTask, Claim, Prepare, Release, Send}
@@ -76,8 +77,12 @@ no9 s = let t = stored s in
 abbrev pub holdsOne : Board → ℕ → Bool
 holdsOne b k = not (eqb (firstOf (which (isHeldBy k) 1 (b .places))) 0)
 
-abbrev pub no10 : Board → ℕ → Test
-no10 b k = test TaskBusy (not (emptyQueue b k) || holdsOne b k || has (task b k .stat) IWAT)
+-- document 02, Ask 5: the task is SPTR of a message on the timer
+abbrev pub isAwaited : Size → Board → ℕ → Bool
+isAwaited z b k = not (each (λ m. not (isOnTimer (place b m) && eqb (message b m .sptr) k)) (z .messages))
+
+abbrev pub no10 : Size → Board → ℕ → Test
+no10 z b k = test TaskBusy (not (emptyQueue b k) || holdsOne b k || has (task b k .stat) IWAT || isAwaited z b k)
 
 abbrev pub no11 : Board → Test
 no11 b = test NoneFree (eqb (lowestFree b) 0)
@@ -96,7 +101,7 @@ abbrev pub ownRow : Size → Board → ℕ → Call → List Test
 ownRow z b c (Install k s p sptr name) = no7Install p ∷ no8 z b k ∷ no9 s ∷ []
 ownRow z b c (PostInterrupt k) = no6 z b k ∷ []
 ownRow z b c (Find name) = []
-ownRow z b c (CancelTask k) = no3 c ∷ no6 z b k ∷ no10 b k ∷ []
+ownRow z b c (CancelTask k) = no3 c ∷ no6 z b k ∷ no10 z b k ∷ []
 ownRow z b c Claim = no3 c ∷ no11 b ∷ []
 ownRow z b c (Prepare m s p sptr) = no3 c ∷ no4 z m ∷ no5 b c m ∷ no14 z sptr ∷ []
 ownRow z b c (Release m) = no3 c ∷ no4 z m ∷ no5 b c m ∷ []
@@ -116,11 +121,11 @@ ownRow z b c WaitForInterrupt = no3 c ∷ []
 abbrev pub row : Size → List ℕ → Board → ℕ → Call → List Test
 row z l b c call = no1 z l ∷ no2 z b ∷ ownRow z b c call
 
--- ---- if several apply, the lowest is given
+-- ---- if several apply, the first of the row is given: the lowest, since it ascends
 pub data Verdict : Type 0 where
   Go : Verdict
   Stop : Refusal → Verdict
 
-abbrev pub lowest : List Test → Verdict
-lowest [] = Go
-lowest (t ∷ l) = elim (t .applies) [ true ↦ Stop (t .refusal) | false ↦ lowest l ]
+abbrev pub given : List Test → Verdict
+given [] = Go
+given (t ∷ l) = elim (t .applies) [ true ↦ Stop (t .refusal) | false ↦ given l ]

@@ -1,5 +1,5 @@
--- Document 01, 'When a board can exist', and document 02, Ask 3: the rules R1 to R7, at a record where the rule speaks of records, and who
--- runs. A reader must believe this file.
+-- Document 01, 'When a board can exist', and document 02, Asks 3 and 5: the rules R1 to R7, at a record where the rule speaks of records,
+-- and who runs. A reader must believe this file.
 --   present b k        task k is there
 --   order z b          the task queue, queue z b k the queue of task k: what the links visit
 --   emptyQueue b k     no message is queued at task k: MPTR is the first queued message, 0 for none
@@ -7,7 +7,7 @@
 --   firstReady z b     the first ready task in queue order, 0 if none
 --   runsNext z b       who runs once a call has had its effect: the task that ran stays if it may run, else it is the first ready one
 --   rule1 .. rule7     the rules, R1 and R7 as document 02, Ask 3, has them; ruleNAt at one record
---   rules2to6 z b      those between; passes z b all of them
+--   rules2to6 z b r4   those between, R4 being r4 at each message; passes z b all of them
 -- Assumes nothing.
 use mathlib.Core.Bool.{Bool, true, false, cond, not, _&&_, _||_}
 use mathlib.Core.List.{List, [], _∷_}
@@ -19,7 +19,7 @@ use Rattle.board.specs.declared.status.Status.{Status}
 use Rattle.board.specs.declared.records.Task.{Task}
 use Rattle.board.specs.declared.records.Message.{Message}
 use Rattle.board.specs.declared.places.Place.{Place}
-use Rattle.board.specs.declared.places.Place.the-variants.{Free, HeldBy, QueuedAt, Nowhere}
+use Rattle.board.specs.declared.places.Place.the-variants.{Free, HeldBy, QueuedAt, OnTimer, Nowhere}
 use Rattle.board.specs.Status.{WAIT, IWAT, BIT5, INTQ, MHBS, TCBB, has, isPresent, isReady, number, fifo}
 use Rattle.board.specs.Places.{isQueuedAt}
 use Rattle.board.specs.Board.{Board, task, message, place}
@@ -104,7 +104,7 @@ rule2At b k = goodTask (task b k)
 abbrev pub rule3 : Size → Board → Bool
 rule3 z b = lists (nextTask b) (taskNumber b) (z .messages) (b .first) (which isThere 1 (b .tasks))
 
--- ---- R4: a message and its place
+-- ---- R4: a message and its place; on the timer (document 02, Ask 5) LINK is 0, SPTR is present and PRIO below FEH
 abbrev pub zeroMessage : Message → Bool
 zeroMessage u = eqb (u .stat) 0 && eqb (u .prio) 0 && eqb (u .link) 0 && eqb (u .rptr) 0 && eqb (u .sptr) 0
 
@@ -116,6 +116,7 @@ abbrev pub goodMessage : Size → (ℕ → Bool) → Message → Place → Bool
 goodMessage z there u Free = zeroMessage u
 goodMessage z there u (HeldBy k) = goodPointers z u && eqb (u .link) 0 && there (k .0)
 goodMessage z there u (QueuedAt k) = goodPointers z u && fifo (u .prio) && ltb (u .prio) 0xFF && there (k .0)
+goodMessage z there u OnTimer = goodPointers z u && eqb (u .link) 0 && there (u .sptr) && ltb (u .prio) 0xFE
 goodMessage z there u (Nowhere p) = false
 
 abbrev pub rule4At : Size → Board → ℕ → Bool
@@ -142,10 +143,10 @@ abbrev pub rule7 : Size → Board → Bool
 rule7 z b = let c = b .running in cond (nobodyReady z b) (eqb c 0) (mayRun z b c && not (has (task b c .stat) MHBS))
 
 -- ---- all of them
-abbrev pub rules2to6 : Size → Board → Bool
-rules2to6 z b =
-    each (rule2At b) (z .tasks) && rule3 z b && each (rule4At z b) (z .messages) && each (rule5At z b) (z .tasks)
+abbrev pub rules2to6 : Size → Board → (ℕ → Bool) → Bool
+rules2to6 z b r4 =
+    each (rule2At b) (z .tasks) && rule3 z b && each r4 (z .messages) && each (rule5At z b) (z .tasks)
     && each (rule6At b) (z .tasks)
 
 abbrev pub passes : Size → Board → Bool
-passes z b = rule1 b && rules2to6 z b && rule7 z b
+passes z b = rule1 b && rules2to6 z b (rule4At z b) && rule7 z b

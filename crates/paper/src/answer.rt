@@ -30,6 +30,9 @@ pub enum Refusal {
     NotItsSender,
     BadSender,
     NothingToDeliver,
+    NoDelay,
+    NoTimerFree,
+    BadTimer,
 }
 
 pub enum Answer {

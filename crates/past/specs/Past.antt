@@ -14,7 +14,7 @@ use lib.Dec.{eqb}
 use Rattle.links.specs.Queue.{each, smallestFailing}
 use Rattle.board.specs.declared.numbers.Size.{Size}
 use Rattle.board.specs.declared.places.Place.{Place}
-use Rattle.board.specs.declared.places.Place.the-variants.{Free, HeldBy, QueuedAt, Nowhere}
+use Rattle.board.specs.declared.places.Place.the-variants.{Free, HeldBy, QueuedAt, OnTimer, Nowhere}
 use Rattle.board.specs.Status.{WAIT, IWAT, INTQ, has, withoutBit}
 use Rattle.board.specs.Places.{isFree}
 use Rattle.board.specs.Board.{Board, task, message, place, withRunning, withPlace}
@@ -96,6 +96,7 @@ abbrev pub holder : Place → ℕ
 holder Free = 0
 holder (HeldBy k) = k .0
 holder (QueuedAt k) = 0
+holder OnTimer = 0
 holder (Nowhere p) = 0
 
 abbrev pub released : Board → ℕ → Back

@@ -19,7 +19,7 @@ use Rattle.board.specs.Board.{Board, boardOf, task, message}
 use Rattle.paper.specs.declared.call.Call.{Call}
 use Rattle.paper.specs.declared.call.Call.the-variants.{Send}
 use Rattle.paper.specs.declared.answer.Refusal.the-variants.{NoSuchTask, BadPriority}
-use Rattle.paper.specs.Refusals.{no3, no4, no5, no6, no7, ownRow, lowest}
+use Rattle.paper.specs.Refusals.{no3, no4, no5, no6, no7, ownRow, given}
 use Rattle.stores.specs.declared.Held.{Held}
 use Rattle.stores.specs.declared.Held.the-variants as held
 use Rattle.stores.specs.declared.Body.{Body}
@@ -27,7 +27,7 @@ use Rattle.stores.specs.declared.Body.the-variants.{Done, Stopped}
 use Rattle.stores.specs.Effects.{placeAt, addressedAs, send, passOn}
 use Rattle.stores.specs.Answers.{heldOf, presentMeant, Stored, stirs, Makes, replyBy}
 use Rattle.stores.specs.Calls.{body, verdict, stepping, passing}
-use Rattle.paper.proofs.Rows.{lowest-stop, lowest-on}
+use Rattle.paper.proofs.Rows.{given-stop, given-on}
 use Rattle.inner.proofs.Rows.{task-row, no-task-row}
 use Rattle.inner.proofs.Steps.{stopped-by, done-by, stops, does, held-goes}
 
@@ -47,26 +47,26 @@ module _ (z : Size) (l : List ℕ) (m w : ℕ) {to : TaskMeant} (et : to ≡ pre
 
   -- 6: none
   pub pass-no-task : to ≡ who.NoTask → Makes (Stopped NoSuchTask) l (passing z l m w)
-  pass-no-task e = stopped-by l passed (lowest-stop (no6 z b w) (no7 b m ∷ []) (no-task-row z b w (sym et ∙ e))) refl
+  pass-no-task e = stopped-by l passed (given-stop (no6 z b w) (no7 b m ∷ []) (no-task-row z b w (sym et ∙ e))) refl
 
   -- it is n; u is the record of m and p its priority number
   module _ {n : TaskNo} (en : to ≡ who.Task n) {u : Message} (eu : u ≡ message b m) {p : ℕ} (ep : p ≡ number (u .prio)) where
     prio : p ≡ number (message b m .prio)
     prio = ep ∙ (λ i. number (eu i .prio))
 
-    there : lowest (no6 z b w ∷ no7 b m ∷ []) ≡ lowest (no7 b m ∷ [])
-    there = lowest-on (no6 z b w) (no7 b m ∷ []) (task-row z b w n (sym et ∙ en) .0)
+    there : given (no6 z b w ∷ no7 b m ∷ []) ≡ given (no7 b m ∷ [])
+    there = given-on (no6 z b w) (no7 b m ∷ []) (task-row z b w n (sym et ∙ en) .0)
 
     -- 7: it is 127
     pub pass-bad-priority : p ≡ 127 → Makes (Stopped BadPriority) l (passing z l m w)
     pass-bad-priority e =
-        stopped-by l passed (there ∙ lowest-stop (no7 b m) [] (eq-eqb (number (message b m .prio)) 127 (sym prio ∙ e))) refl
+        stopped-by l passed (there ∙ given-stop (no7 b m) [] (eq-eqb (number (message b m .prio)) 127 (sym prio ∙ e))) refl
 
     -- it is placed
     pub passes : {d : List ℕ} → p ≢ 127 → d ≡ placeAt z l m u (n .0) → Makes (Done 0 (who.Task n)) d (passing z l m w)
     passes h ed =
         let t = task-row z b w n (sym et ∙ en) .1 in
-        done-by l passed (there ∙ lowest-on (no7 b m) [] (ne-eqb (number (message b m .prio)) 127 (λ e. h (prio ∙ e)))) refl
+        done-by l passed (there ∙ given-on (no7 b m) [] (ne-eqb (number (message b m .prio)) 127 (λ e. h (prio ∙ e)))) refl
         (ap who.Task t) (ed ∙ (λ i. placeAt z l m (eu i) (t i .0)))
 
 -- ---- resend, forward, return
@@ -89,17 +89,17 @@ module _ (z : Size) (l : List ℕ) (m r : ℕ) {h : Held} (eh : h ≡ heldOf z (
   abbrev board : Board
   board = boardOf z l
 
-  goes : (verdict z l (Send m r) ≡ lowest (no6 z board r ∷ [])) × (c ≡ taskNo (board .running)) × (one ≡ record { 0 = m })
+  goes : (verdict z l (Send m r) ≡ given (no6 z board r ∷ [])) × (c ≡ taskNo (board .running)) × (one ≡ record { 0 = m })
   goes = held-goes z l (Send m r) m (no6 z board r ∷ []) refl eh by
 
   -- 6: none
   pub send-no-task : to ≡ who.NoTask → Makes (Stopped NoSuchTask) l (stepping z l (Send m r))
-  send-no-task e = stops z l (Send m r) (goes .0 ∙ lowest-stop (no6 z board r) [] (no-task-row z board r (sym et ∙ e))) refl
+  send-no-task e = stops z l (Send m r) (goes .0 ∙ given-stop (no6 z board r) [] (no-task-row z board r (sym et ∙ e))) refl
 
   -- it is n: the message is sent to it
   pub sends : {n : TaskNo} {d : List ℕ} → to ≡ who.Task n → d ≡ send z l (c .0) (one .0) (n .0)
       → Makes (Done 0 (who.Task n)) d (stepping z l (Send m r))
   sends {n = n} en ed =
       let t = task-row z board r n (sym et ∙ en) in
-      does z l (Send m r) (goes .0 ∙ lowest-on (no6 z board r) [] (t .0)) refl (ap who.Task (t .1))
+      does z l (Send m r) (goes .0 ∙ given-on (no6 z board r) [] (t .0)) refl (ap who.Task (t .1))
       (ed ∙ (λ i. send z l (goes .1 i .0) (goes .2 i .0) (t .1 i .0)))

@@ -12,7 +12,7 @@ use lib.Dec.{eqb}
 use borrow.Author.Tests.{eq-eqb, ne-eqb}
 use Rattle.board.specs.declared.numbers.TaskNo.{TaskNo}
 use Rattle.board.specs.declared.places.Place.{Place}
-use Rattle.board.specs.declared.places.Place.the-variants.{Free, HeldBy, QueuedAt, Nowhere}
+use Rattle.board.specs.declared.places.Place.the-variants.{Free, HeldBy, QueuedAt, OnTimer, Nowhere}
 use Rattle.board.specs.Places.{isQueuedAt, isQueued}
 use Rattle.board.specs.Board.{Board, place}
 use Rattle.queue_rules.specs.Walks.{counted, queuedAt, Lengths}
@@ -23,6 +23,7 @@ nowhere : (k : ℕ) (p : Place) → isQueued p ≡ false → isQueuedAt k p ≡ 
 nowhere k Free e = refl
 nowhere k (HeldBy j) e = refl
 nowhere k (QueuedAt j) e = absurd (true≢false e)
+nowhere k OnTimer e = refl
 nowhere k (Nowhere n) e = refl
 
 pub lengths-start : (b : Board) → Lengths b 0 (replicate 256 0)

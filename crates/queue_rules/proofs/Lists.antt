@@ -19,7 +19,7 @@ use Rattle.links.proofs.Exactly.{one, rearranged-in, rearranged-length, which-o
 use Rattle.links.proofs.Listed.{lists-counted}
 use Rattle.board.specs.declared.numbers.Size.{Size}
 use Rattle.board.specs.declared.places.Place.{Place}
-use Rattle.board.specs.declared.places.Place.the-variants.{Free, HeldBy, QueuedAt, Nowhere}
+use Rattle.board.specs.declared.places.Place.the-variants.{Free, HeldBy, QueuedAt, OnTimer, Nowhere}
 use Rattle.board.specs.Numbers.{outside}
 use Rattle.board.specs.Records.{noTask}
 use Rattle.board.specs.Places.{placeOf, placeIn, isQueuedAt, isQueued}
@@ -114,6 +114,7 @@ abbrev pub NamesTask : Size → Place → Type 0
 NamesTask z Free = Unit {0}
 NamesTask z (HeldBy k) = Unit {0}
 NamesTask z (QueuedAt k) = (1 ≤ k .0) × (k .0 ≤ z .tasks)
+NamesTask z OnTimer = Unit {0}
 NamesTask z (Nowhere p) = Unit {0}
 
 place-named : (z : Size) (p : ℕ) → NamesTask z (placeOf z p)
@@ -142,6 +143,7 @@ named-once : (z : Size) (p : Place) → NamesTask z p → sumTo (λ k. one (isQu
 named-once z Free h = sum-zero (z .tasks)
 named-once z (HeldBy k) h = sum-zero (z .tasks)
 named-once z (QueuedAt k) h = sum-once (k .0) (z .tasks) (h .0) (h .1)
+named-once z OnTimer h = sum-zero (z .tasks)
 named-once z (Nowhere p) h = sum-zero (z .tasks)
 
 module _ (z : Size) (b : Board) where

@@ -8,7 +8,7 @@ use native.Mathlib.Omega.{arith}
 use denote.Enum.Declared.{tagOf}
 use types.Run.{OneOf}
 use Rattle.board.specs.declared.places.Place.{Place}
-use Rattle.board.specs.declared.places.Place.the-variants.{Free, HeldBy, QueuedAt, Nowhere}
+use Rattle.board.specs.declared.places.Place.the-variants.{Free, HeldBy, QueuedAt, OnTimer, Nowhere}
 use Rattle.board.specs.Places.{isQueued}
 use Rattle.board.proofs.places.Place.{the-type}
 
@@ -22,4 +22,5 @@ module _ (p q : Place) (e : q ≡ p) where
       go Free i = refl
       go (HeldBy k) i = refl
       go (QueuedAt k) i = absurd (⊎-elim (λ f. omega arith) (λ j. ⊎-elim (λ f. omega arith) (λ f. omega arith) j) i)
+      go OnTimer i = refl
       go (Nowhere m) i = refl

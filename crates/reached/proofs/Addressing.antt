@@ -31,7 +31,7 @@ use Rattle.paper.specs.declared.call.Call.the-variants.{Send, CancelMessage}
 use Rattle.paper.specs.Rules.{present, queue}
 use Rattle.paper.specs.Changes.{withQueue, hold}
 use Rattle.paper.specs.Effects.{ownPrio, addressed, send, cancelMessage}
-use Rattle.paper.specs.Refusals.{no4, no6, no12, no13, ownRow, Go, lowest}
+use Rattle.paper.specs.Refusals.{no4, no6, no12, no13, ownRow, Go, given}
 use Rattle.linked.proofs.Chosen.{runs-alike}
 use Rattle.kept.specs.Settled.{Settled, Fitting}
 use Rattle.kept.specs.Touched.{IntoQueue, OutOfQueue, forMessages, queuesAfter, Frame}
@@ -108,7 +108,7 @@ module _ (z : Size) (a : Sizes z) (w : Board) (k : ℕ) (p : Passing z w k) (m :
   abbrev d : Board
   d = send z w k m x
 
-  go-send : lowest (ownRow z w k (Send m x)) ≡ Go
+  go-send : given (ownRow z w k (Send m x)) ≡ Go
   go-send =
       go-held z w k m (no6 z w x ∷ []) some mn held (go-there z w x [] xn there refl)
 
@@ -171,7 +171,7 @@ module _ (z : Size) (a : Sizes z) (w : Board) (k : ℕ) (p : Passing z w k) (m :
   abbrev b : Board
   b = cancelMessage z d k m x
 
-  go-cancel : lowest (ownRow z d k (CancelMessage m x)) ≡ Go
+  go-cancel : given (ownRow z d k (CancelMessage m x)) ≡ Go
   go-cancel =
       let still : present d x ≡ true = ap isPresent (same-d x) ∙ there in
       let queued : no12 d m x .applies ≡ false = ap (λ (i : Place). not (isQueuedAt x i)) place-d ∙ ap not (eq-eqb x x refl) in

@@ -29,7 +29,7 @@ use Rattle.paper.specs.declared.call.Call.the-variants.{Forward, CancelMessage}
 use Rattle.paper.specs.Rules.{present, nextMessage, messageNumber, queue, ready}
 use Rattle.paper.specs.Changes.{withQueue, hold}
 use Rattle.paper.specs.Effects.{placeAt, emptied, cancelMessage}
-use Rattle.paper.specs.Refusals.{no6, no7, ownRow, Go, lowest}
+use Rattle.paper.specs.Refusals.{no6, no7, ownRow, Go, given}
 use Rattle.linked.specs.Sound.{PlaceGood}
 use Rattle.linked.proofs.Running.{placed-numbered, ready-says}
 use Rattle.linked.proofs.Chosen.{fewer-runs}
@@ -282,7 +282,7 @@ module _ (z : Size) (a : Sizes z) (c k : ℕ) (n : Numbered (z .tasks) k) (b : B
       same-board z x b o fx f settled-x s (frame-x .running ∙ frame-y .running) (λ j h. lists j (ℕ-discrete j k))
       (λ j h. sheets j (ℕ-discrete j k)) (λ j h. blocks j (ℕ-discrete j m)) (λ j h. places j (ℕ-discrete j m))
 
-  go-forward : lowest (ownRow z y c (Forward m k)) ≡ Go
+  go-forward : given (ownRow z y c (Forward m k)) ≡ Go
   go-forward =
       go-held z y c m (no6 z y k ∷ no7 y m ∷ []) somebody mn held-y
       (go-there z y k (no7 y m ∷ []) n there-y (go-from (no7 y m) [] (ne-eqb (number prio) 127 low) refl))

@@ -29,7 +29,7 @@ use Rattle.paper.specs.declared.call.Call.the-variants.{Install, WaitForInterru
 use Rattle.paper.specs.Rules.{isThere, present, nextTask, taskNumber, order, ready}
 use Rattle.paper.specs.Changes.{clears, withOrder}
 use Rattle.paper.specs.Effects.{install, cancelTask}
-use Rattle.paper.specs.Refusals.{no7Install, no9, ownRow, Go, lowest}
+use Rattle.paper.specs.Refusals.{no7Install, no9, ownRow, Go, given}
 use Rattle.linked.specs.Sound.{Proper}
 use Rattle.linked.proofs.Running.{placed-numbered}
 use Rattle.linked.proofs.Chosen.{none-runs}
@@ -171,7 +171,7 @@ module _ (z : Size) (a : Sizes z) (q : List ℕ) (k : ℕ) (b : Board) (u : Unus
         withoutBit-other old IWAT MHBS refl ∙ w .parked parked .1,
       )
 
-  goes-through : lowest (ownRow z y 0 call) ≡ Go
+  goes-through : given (ownRow z y 0 call) ≡ Go
   goes-through =
       let prio : no7Install (t .prio) .applies ≡ false =
       rw (proper .odd, le-leb 0x03 (t .prio) (proper .low), le-leb (t .prio) 0xFD (proper .high)) refl in

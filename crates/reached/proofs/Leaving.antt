@@ -30,7 +30,7 @@ use Rattle.paper.specs.declared.call.Call.the-variants.{Install, PostInterrupt,
 use Rattle.paper.specs.Rules.{isThere, present, taskNumber, order, ready}
 use Rattle.paper.specs.Changes.{sets, withOrder}
 use Rattle.paper.specs.Effects.{install, cancelTask}
-use Rattle.paper.specs.Refusals.{no6, no10, holdsOne, ownRow, Go, lowest}
+use Rattle.paper.specs.Refusals.{no6, no10, holdsOne, ownRow, Go, given}
 use Rattle.paper.proofs.Which.{nth-numbered}
 use Rattle.linked.proofs.Tests.{says-isHeldBy}
 use Rattle.linked.proofs.Running.{which-first}
@@ -171,7 +171,7 @@ module _ (z : Size) (a : Sizes z) (k : ℕ) (b : Board) (n : Numbered (z .tasks)
           let m = firstOf (which (isHeldBy k) 1 (d .places)) in
           absurd (not-its m (sym (order-place (withTask b k guest) l m) ∙ says-isHeldBy k (place d m) .0 (r .1)))
 
-  go-cancel : lowest (ownRow z e k (CancelTask k)) ≡ Go
+  go-cancel : given (ownRow z e k (CancelTask k)) ≡ Go
   go-cancel =
       let busy : no10 e k .applies ≡ false =
       rw (eq-eqb (task d k .mptr) 0 (mptr-d k n), holds-none, ap (λ (t : Task). has (t .stat) IWAT) sheet-k) refl in

@@ -15,7 +15,7 @@ use Rattle.board.specs.Status.{MHBS, has}
 use Rattle.board.specs.Board.{Board, total, bytesOf, task, withRunning}
 use Rattle.paper.specs.declared.call.Call.{Call}
 use Rattle.paper.specs.Rules.{ready, mayRun, firstReady, runsNext}
-use Rattle.paper.specs.Refusals.{no1, no2, ownRow, row, Verdict, Go, lowest}
+use Rattle.paper.specs.Refusals.{no1, no2, ownRow, row, Verdict, Go, given}
 use Rattle.paper.specs.Outcomes.{Outcome, accepted, undispatched, judge, body, deliver, dispatchTo, dispatch, called, effect}
 use Rattle.paper.specs.History.{run}
 use Rattle.paper.proofs.Histories.{after-append, answers-append}
@@ -86,7 +86,7 @@ module _ (z : Size) (a : Sizes z) (y : Board) (c : ℕ) (p : Passing z y c) (cal
       step (inr h) i (yes k) = k ∙ sym (q .rightly .nobody .1 (right .nobody .0 k))
       step (inr h) i (no k) = h (runsNext z e) (right .leads k .awake)
 
-  row-goes : lowest (ownRow z y c call) ≡ Go → lowest (row z (bytesOf y) y c call) ≡ Go
+  row-goes : given (ownRow z y c call) ≡ Go → given (row z (bytesOf y) y c call) ≡ Go
   row-goes g =
       let s = p .settled in
       let w = bytes-fit z y (s .fits) (s .regular .zeros) in
@@ -104,7 +104,7 @@ module _ (z : Size) (a : Sizes z) (y : Board) (c : ℕ) (p : Passing z y c) (cal
       ∙ ap (λ (k : ℕ). accepted v d 0 (bytesOf (withRunning x k))) (sym (q .runs))
 
   -- so one call makes x
-  pub makes-call : Fitting call → lowest (ownRow z y c call) ≡ Go → body z y c call .board ≡ withRunning x c
+  pub makes-call : Fitting call → given (ownRow z y c call) ≡ Go → body z y c call .board ≡ withRunning x c
       → (d ≡ c) ⊎ ((j : ℕ) → ready x j ≡ true → j ≡ d) → Makes z y (call ∷ []) x
   makes-call f g h w =
       let v : ℕ = body z y c call .value in

@@ -12,7 +12,7 @@ use Rattle.links.specs.Queue.{firstOf, consIf, which, each, lists}
 use Rattle.board.specs.declared.records.Task.{Task}
 use Rattle.board.specs.declared.records.Message.{Message}
 use Rattle.board.specs.declared.places.Place.{Place}
-use Rattle.board.specs.declared.places.Place.the-variants.{Free, HeldBy, QueuedAt, Nowhere}
+use Rattle.board.specs.declared.places.Place.the-variants.{Free, HeldBy, QueuedAt, OnTimer, Nowhere}
 use Rattle.board.specs.Numbers.{small, taskNo}
 use Rattle.board.specs.Status.{stored}
 use Rattle.board.specs.Records.{noTask, noMessage}
@@ -25,7 +25,7 @@ use Rattle.paper.specs.Answers.{Handed, handed}
 use Rattle.paper.specs.Rules.{present, nextMessage, messageNumber, goodMessage, rule4At, rule5At, passes}
 use Rattle.paper.specs.Effects.{lowestFree}
 use Rattle.paper.specs.Named.{brokenRule}
-use Rattle.paper.specs.Refusals.{no3, test, lowest}
+use Rattle.paper.specs.Refusals.{no3, test, given}
 use Rattle.paper.specs.Outcomes.{Outcome, accepted, undispatched, dispatch, judge, called, effect}
 use Rattle.paper.specs.History.{run}
 use Rattle.starred.specs.Table.{accepts, claimed}
@@ -52,6 +52,7 @@ abbrev FewAt : Place → Type 0
 FewAt Free = Unit {0}
 FewAt (HeldBy k) = k .0 ≡ 1
 FewAt (QueuedAt k) = ⊥
+FewAt OnTimer = ⊥
 FewAt (Nowhere p) = ⊥
 
 abbrev Few : List Place → Type 0
@@ -96,6 +97,7 @@ free-or-held : (ps : List Place) (p : Place) → FewAt p → goodMessage small (
 free-or-held ps Free h = refl
 free-or-held ps (HeldBy k) h = ap (present (lone ps)) h
 free-or-held ps (QueuedAt k) h = absurd h
+free-or-held ps OnTimer h = absurd h
 free-or-held ps (Nowhere p) h = absurd h
 
 rule4-holds : (ps : List Place) → Few ps → (m : ℕ) → rule4At small (lone ps) m ≡ true
@@ -107,6 +109,7 @@ not-queued : (k : ℕ) (p : Place) → FewAt p → isQueuedAt k p ≡ false
 not-queued k Free h = refl
 not-queued k (HeldBy j) h = refl
 not-queued k (QueuedAt j) h = absurd h
+not-queued k OnTimer h = absurd h
 not-queued k (Nowhere p) h = absurd h
 
 none-queued : (ps : List Place) → Few ps → (k n : ℕ) → which (isQueuedAt k) n ps ≡ []
@@ -133,6 +136,7 @@ place-back Free h = refl
 place-back (HeldBy k) h =
     ap (λ (n : ℕ). placeIn small (placeBytes (HeldBy (taskNo n)))) h ∙ ap (λ (n : ℕ). HeldBy (taskNo n)) (sym h)
 place-back (QueuedAt k) h = absurd h
+place-back OnTimer h = absurd h
 place-back (Nowhere p) h = absurd h
 
 places-back : (n : ℕ) (ps : List Place) → length ps ≡ n → Few ps → map (placeIn small) (cut n 1 (join (map placeBytes ps))) ≡ ps
@@ -158,7 +162,7 @@ right-length ps n =
 abbrev claimed-by : List Place → Bool → Bool → Bool → ℕ → Outcome
 claimed-by ps t u w m =
     judge (bytes ps)
-    (lowest (test WrongLength (not t) ∷ test (RuleBroken (brokenRule small (lone ps))) (not u) ∷ no3 1 ∷ test NoneFree w ∷ []))
+    (given (test WrongLength (not t) ∷ test (RuleBroken (brokenRule small (lone ps))) (not u) ∷ no3 1 ∷ test NoneFree w ∷ []))
     (dispatch small (bytes ps) (undispatched m (withPlace (lone ps) m held)))
 
 claim-gives : (ps : List Place) (i : ℕ) → length ps ≡ 128 → Few ps → lowestFree (lone ps) ≡ suc i

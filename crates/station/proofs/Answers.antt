@@ -20,7 +20,7 @@ use Rattle.paper.specs.declared.answer.Rule.{Rule}
 use Rattle.paper.specs.declared.answer.Refusal.the-variants.{WrongLength, RuleBroken}
 use Rattle.paper.specs.Rules.{firstReady, passes}
 use Rattle.paper.specs.Named.{brokenRule}
-use Rattle.paper.specs.Refusals.{test, no2By, lowest}
+use Rattle.paper.specs.Refusals.{test, no2By, given}
 use Rattle.paper.specs.Outcomes.{Outcome, Ends, accepted, refused, judge, blank, fresh, check}
 use Rattle.paper.specs.Conversion.{oldPasses, oldBroken, converted, convert}
 use Rattle.linked.proofs.Chosen.{awake-meant, first-numbered, first-meant}
@@ -63,13 +63,13 @@ zeros-all l e z =
 module _ (l : List ℕ) {s : Bool} (es : s ≡ eqb (length l) (total small)) where
   pub fresh-refused : not s ≡ true → Ends (Refused WrongLength) l (fresh small l)
   fresh-refused h =
-      ends (ap (λ (t : Bool). judge l (lowest (test WrongLength (not t) ∷ [])) (accepted 0 0 0 (blank small))) (sized-not l es h))
+      ends (ap (λ (t : Bool). judge l (given (test WrongLength (not t) ∷ [])) (accepted 0 0 0 (blank small))) (sized-not l es h))
 
   pub fresh-accepted : {m : List ℕ} → not s ≡ false → length m ≡ 1476 → ((j : ℕ) → j < 1476 → getD m j 0 ≡ 0)
       → Ends (Accepted 0 0 0) m (fresh small l)
   fresh-accepted {m = m} h f z =
       ends
-      (ap (λ (t : Bool). judge l (lowest (test WrongLength (not t) ∷ [])) (accepted 0 0 0 (blank small))) (sized-so l es h)
+      (ap (λ (t : Bool). judge l (given (test WrongLength (not t) ∷ [])) (accepted 0 0 0 (blank small))) (sized-so l es h)
       ∙ ap (accepted 0 0 0) (sym (zeros-all m f z)))
 
 -- ---- the check of the rules: x is what it says, where they hold as t says
@@ -107,7 +107,7 @@ runs-named l e =
 
 -- ---- check and conversion: by the length and the rules, of which r is to be named, or else accepted with o
 abbrev judged : List ℕ → Rule → Outcome → Bool → Bool → Outcome
-judged l r o t u = judge l (lowest (test WrongLength (not t) ∷ no2By r u ∷ [])) o
+judged l r o t u = judge l (given (test WrongLength (not t) ∷ no2By r u ∷ [])) o
 
 module _ (l : List ℕ) (q : Rule) (o : Outcome) (t : Bool) {s : Bool} (es : s ≡ eqb (length l) (total small)) where
   -- 1

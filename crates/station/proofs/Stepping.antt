@@ -25,7 +25,7 @@ use Rattle.rules.specs.declared.Edition.the-variants.{Today}
 use Rattle.rules.specs.declared.Checked.{Checked}
 use Rattle.rules.specs.declared.Checked.the-variants.{Passes, Broken}
 use Rattle.rules.specs.Checked.{checkedOf}
-use Rattle.paper.proofs.Rows.{lowest-stop, lowest-on}
+use Rattle.paper.proofs.Rows.{given-stop, given-on}
 use Rattle.stored.proofs.Theorems.{call-effect}
 use Rattle.inner.proofs.Steps.{ends}
 use Rattle.station.proofs.Answers.{sized-not, sized-so, sized-long, sized-whole, today-broken, today-kept, runs-named}
@@ -44,17 +44,17 @@ module _ (l : List ℕ) (call : Call) {s : Bool} (es : s ≡ eqb (length l) (tot
 
   -- 1
   pub step-length : not s ≡ true → Ends (Refused WrongLength) l (effect small l call)
-  step-length h = ends (ap by (lowest-stop (no1 small l) (no2 small b ∷ ownRow small b c call) (ap not (sized-not l es h))))
+  step-length h = ends (ap by (given-stop (no1 small l) (no2 small b ∷ ownRow small b c call) (ap not (sized-not l es h))))
 
   -- it is right, and x is what the check of the rules says
   module _ (h : not s ≡ false) {x : Checked} (ex : x ≡ checkedOf Today small b) where
     -- 2
     pub step-broken : {r : Rule} → x ≡ Broken r → Ends (Refused (RuleBroken r)) l (effect small l call)
     step-broken p =
-        let on = lowest-on (no1 small l) (no2 small b ∷ ownRow small b c call) (ap not (sized-so l es h)) in
+        let on = given-on (no1 small l) (no2 small b ∷ ownRow small b c call) (ap not (sized-so l es h)) in
         let n = today-broken l ex p in
         ends
-        (ap by (on ∙ lowest-stop (no2 small b) (ownRow small b c call) (ap not (n .0)))
+        (ap by (on ∙ given-stop (no2 small b) (ownRow small b c call) (ap not (n .0)))
         ∙ ap (λ (r : Rule). refused l (RuleBroken r)) (sym (n .1)))
 
     module _ {w : TaskMeant} (p : x ≡ Passes w) where

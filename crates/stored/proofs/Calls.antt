@@ -27,7 +27,7 @@ use Rattle.paper.specs.declared.call.Call.the-variants.{Receive, ReceiveAndWait
 use Rattle.paper.specs.Rules.{present, queue, order}
 use Rattle.paper.specs.Changes.{hold}
 use Rattle.paper.specs.Effects.{placeAt, send, emptied, cancelMessage, waits, install, cancelTask, lowestFree, release}
-use Rattle.paper.specs.Refusals.{Test, no3, no4, no5, no6, no7, ownRow, Go, lowest}
+use Rattle.paper.specs.Refusals.{Test, no3, no4, no5, no6, no7, ownRow, Go, given}
 use Rattle.paper.specs.Outcomes.{Undispatched, body}
 use Rattle.linked.proofs.Running.{ready-says}
 use Rattle.kept.specs.Claims.{Sizes}
@@ -68,7 +68,7 @@ module _ (z : Size) (l : List ℕ) (e : length l ≡ total z) (a : Sizes z) (q :
 
   -- ---- messages that are placed
   -- as the record u, by a row that says that the running task holds it and that r is there
-  placed : (m : ℕ) (u : Message) (r : ℕ) (tests : List Test) → lowest (no3 c ∷ no4 z m ∷ no5 b c m ∷ no6 z b r ∷ tests) ≡ Go
+  placed : (m : ℕ) (u : Message) (r : ℕ) (tests : List Test) → given (no3 c ∷ no4 z m ∷ no5 b c m ∷ no6 z b r ∷ tests) ≡ Go
       → Comes z (effects.placeAt z l m u r) (placeAt z (withMessage b m u) m r)
   placed m u r tests g =
       let (runs, held, there, rest) = sender-passed z b c m r tests g in
@@ -78,11 +78,11 @@ module _ (z : Size) (l : List ℕ) (e : length l ≡ total z) (a : Sizes z) (q :
       (not-in-out m (queue z b r) (λ i. out m (subst (In m) (queue-walked z b q queues s r n) i) refl))
 
   -- addressed
-  sent : (m r : ℕ) → lowest (ownRow z b c (Send m r)) ≡ Go → Comes z (effects.send z l c m r) (send z b c m r)
+  sent : (m r : ℕ) → given (ownRow z b c (Send m r)) ≡ Go → Comes z (effects.send z l c m r) (send z b c m r)
   sent m r g = placed m (effects.addressed b c m r) r [] g
 
   -- as it is
-  passed : (m r : ℕ) → lowest (ownRow z b c (Forward m r)) ≡ Go → Comes z (effects.passOn z l m r) (placeAt z b m r)
+  passed : (m r : ℕ) → given (ownRow z b c (Forward m r)) ≡ Go → Comes z (effects.passOn z l m r) (placeAt z b m r)
   passed m r g =
       comes-to z _ _ _ (placed m (message b m) r (no7 b m ∷ []) g)
       (ap (λ (x : Board). placeAt z x m r) (message-same b m (message b m) refl))
@@ -91,7 +91,7 @@ module _ (z : Size) (l : List ℕ) (e : length l ≡ total z) (a : Sizes z) (q :
   and-waits k d h = and-then z k _ _ (waits c) h (λ f. comes-waits z k f c)
 
   -- ---- tasks
-  installed : (k t p sptr name : ℕ) → lowest (ownRow z b c (Install k t p sptr name)) ≡ Go
+  installed : (k t p sptr name : ℕ) → given (ownRow z b c (Install k t p sptr name)) ≡ Go
       → Comes z (effects.install z l k t p sptr name) (install z b k t p sptr name)
   installed k t p sptr name g =
       let (prio, n, absent, stat) = install-row z b k t p g in
@@ -99,7 +99,7 @@ module _ (z : Size) (l : List ℕ) (e : length l ≡ total z) (a : Sizes z) (q :
       (not-in-out k (order z b) (λ i. true≢false
       (sym (s .regular .linked .tasks .exact k .0 (subst (In k) (order-walked z b q queues s (a .limit)) i)) ∙ absent)))
 
-  cancelled : (k : ℕ) → lowest (ownRow z b c (CancelTask k)) ≡ Go → Comes z (effects.cancelTask z l k) (cancelTask z b k)
+  cancelled : (k : ℕ) → given (ownRow z b c (CancelTask k)) ≡ Go → Comes z (effects.cancelTask z l k) (cancelTask z b k)
   cancelled k g =
       let (n, there, idle) = cancel-row z b c k g in
       let i : In k (order z b) = subst (In k) (sym (order-walked z b q queues s (a .limit))) (s .regular .linked .tasks .exact k .1 there) in
@@ -112,7 +112,7 @@ module _ (z : Size) (l : List ℕ) (e : length l ≡ total z) (a : Sizes z) (q :
       let d : List ℕ = putMessage z l m noMessage in
       and-then z d _ _ (λ x. withPlace x m Free) (comes-message z l e m noMessage) (λ f. comes-free z d f m)
 
-  taken-back : (m r : ℕ) → lowest (ownRow z b c (CancelMessage m r)) ≡ Go → Comes z (effects.cancelMessage z l c m r) (cancelMessage z b c m r)
+  taken-back : (m r : ℕ) → given (ownRow z b c (CancelMessage m r)) ≡ Go → Comes z (effects.cancelMessage z l c m r) (cancelMessage z b c m r)
   taken-back m r g =
       let (runs, n, queued) = cancel-message-row z b c m r g in
       let i : In m (queue z b r) = subst (In m) (sym (queue-walked z b q queues s r n)) (s .regular .linked .messages r n .exact m .1 queued) in
@@ -122,7 +122,7 @@ module _ (z : Size) (l : List ℕ) (e : length l ≡ total z) (a : Sizes z) (q :
       (and-then z d _ _ (λ y. hold y c m) (queue-out z l e (a .limit) (s .regular .linked) r n m i)
       (λ f. comes-hold z d f c m (runner runs) (a .tasks))) (λ f. comes-emptied z k f r)
 
-  there : lowest (ownRow z b c Receive) ≡ Go → present b c ≡ true
+  there : given (ownRow z b c Receive) ≡ Go → present b c ≡ true
   there g = ready-says b c (awake (runner-passed c (go-passed (no3 c) [] g .0))) .0
 
   -- ---- every call
@@ -132,7 +132,7 @@ module _ (z : Size) (l : List ℕ) (e : length l ≡ total z) (a : Sizes z) (q :
       → Body z b c (record { value = 0; stirred = k; after = m }) (body z b c call)
   does call v r {k = k} o h = record { value = sym v; bytes = h; stirs = stirs-by z b c call (numberOfTask k) r o }
 
-  pub body-comes : (call : Call) → lowest (ownRow z b c call) ≡ Go → Body z b c (calls.body z l c call) (body z b c call)
+  pub body-comes : (call : Call) → given (ownRow z b c call) ≡ Go → Body z b c (calls.body z l c call) (body z b c call)
   body-comes (Install k t p sptr name) g = record {
     value = refl;
     bytes = installed k t p sptr name g;

@@ -17,7 +17,7 @@ use Rattle.paper.specs.declared.call.Call.{Call}
 use Rattle.paper.specs.declared.answer.Refusal.the-variants.{NothingToDeliver}
 use Rattle.paper.specs.Rules.{queue, runsNext, passes}
 use Rattle.paper.specs.Changes.{clears, takeFirst}
-use Rattle.paper.specs.Refusals.{ownRow, Verdict, Go, Stop, lowest}
+use Rattle.paper.specs.Refusals.{ownRow, Verdict, Go, Stop, given}
 use Rattle.paper.specs.Outcomes.{Outcome, undispatched, accepted, refused, judge, body, deliver, dispatchTo, dispatch, effect}
 use Rattle.paper.proofs.Rows.{row-own}
 use Rattle.linked.specs.Sound.{RunsRightly}
@@ -110,7 +110,7 @@ module _ (z : Size) (l : List ℕ) (call : Call) (a : Sizes z) (h : Bytes z l) (
   abbrev then : ℕ
   then = calls.runsThen z runner (made .stirred) (made .after)
 
-  goes : lowest (ownRow z before runner call) ≡ Go → Small (calls.dispatch z (made .value) (putRunning (made .after) (then % 256)) then .after)
+  goes : given (ownRow z before runner call) ≡ Go → Small (calls.dispatch z (made .value) (putRunning (made .after) (then % 256)) then .after)
       → calls.dispatch z (made .value) (putRunning (made .after) (then % 256)) then ≡ dispatch z l (body z before runner call)
   goes g small =
       let move = touched before runner call .move in
@@ -132,7 +132,7 @@ module _ (z : Size) (l : List ℕ) (call : Call) (a : Sizes z) (h : Bytes z l) (
       (subst (λ (k : ℕ). Small (calls.dispatch z (made .value) (putRunning (made .after) (k % 256)) k .after)) runs small)
       ∙ ap₂ (λ (v : ℕ) (x : Board). dispatch z l (undispatched v x)) (c .value) (c .bytes .1)
 
-  by-verdict : (v : Verdict) → lowest (ownRow z before runner call) ≡ v
+  by-verdict : (v : Verdict) → given (ownRow z before runner call) ≡ v
       → Small (calls.finish z runner (bodyBy v made) (bytesBy v l (made .after)) .after)
       → calls.finish z runner (bodyBy v made) (bytesBy v l (made .after)) ≡ judge l v (dispatch z l (body z before runner call))
   by-verdict Go g small = goes g small
@@ -140,5 +140,5 @@ module _ (z : Size) (l : List ℕ) (call : Call) (a : Sizes z) (h : Bytes z l) (
 
   pub call-effect : Small (calls.called z l call .after) → calls.called z l call ≡ effect z l call
   call-effect small =
-      by-verdict (lowest (ownRow z before runner call)) refl small
+      by-verdict (given (ownRow z before runner call)) refl small
       ∙ ap (λ (v : Verdict). judge l v (dispatch z l (body z before runner call))) (sym (row-own z l before runner call (h .long) p))

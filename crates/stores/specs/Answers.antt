@@ -22,7 +22,7 @@ use Rattle.board.specs.Board.{Board, boardOf, total}
 use Rattle.paper.specs.declared.answer.Answer.{Answer}
 use Rattle.paper.specs.declared.answer.Answer.the-variants.{Accepted, Refused}
 use Rattle.paper.specs.Rules.{present}
-use Rattle.paper.specs.Refusals.{no3, no4, no5, Verdict, Go, Stop, lowest}
+use Rattle.paper.specs.Refusals.{no3, no4, no5, Verdict, Go, Stop, given}
 use Rattle.stores.specs.declared.Held.{Held}
 use Rattle.stores.specs.declared.Held.the-variants as held
 use Rattle.stores.specs.declared.Body.{Body}
@@ -34,7 +34,7 @@ heldBy Go c m = held.By (taskNo c) (record { 0 = m })
 heldBy (Stop q) c m = held.Not q
 
 abbrev pub heldOf : Size → Board → ℕ → ℕ → Held
-heldOf z b c w = heldBy (lowest (no3 c ∷ no4 z w ∷ no5 b c w ∷ [])) c w
+heldOf z b c w = heldBy (given (no3 c ∷ no4 z w ∷ no5 b c w ∷ [])) c w
 
 abbrev pub presentMeant : Size → Board → ℕ → TaskMeant
 presentMeant z b w = cond (outside (z .tasks) w || not (present b w)) NoTask (Task (taskNo w))

@@ -26,7 +26,7 @@ use Rattle.paper.specs.declared.answer.Refusal.the-variants.{NothingToDeliver}
 use Rattle.paper.specs.declared.answer.Answer.the-variants.{Accepted, Refused}
 use Rattle.paper.specs.Rules.{ready, outranks, firstReady}
 use Rattle.paper.specs.Effects.{lowestFree}
-use Rattle.paper.specs.Refusals.{no6, no7, Verdict, ownRow, lowest}
+use Rattle.paper.specs.Refusals.{no6, no7, Verdict, ownRow, given}
 use Rattle.paper.specs.Outcomes.{Outcome}
 use Rattle.stores.specs.declared.Body.{Body}
 use Rattle.stores.specs.declared.Body.the-variants.{Done, Stopped}
@@ -58,13 +58,13 @@ body z l c WaitForInterrupt = rests 0 (waitInterrupt z l c)
 
 -- ---- a call up to dispatch; the verdict is that of the row below 1 and 2
 abbrev pub verdict : Size → List ℕ → Call → Verdict
-verdict z l call = let b = boardOf z l in lowest (ownRow z b (b .running) call)
+verdict z l call = let b = boardOf z l in given (ownRow z b (b .running) call)
 
 abbrev pub stepping : Size → List ℕ → Call → Reply Body
 stepping z l call = replyBy (verdict z l call) l (body z l (boardOf z l .running) call)
 
 abbrev pub passVerdict : Size → List ℕ → ℕ → ℕ → Verdict
-passVerdict z l m w = let b = boardOf z l in lowest (no6 z b w ∷ no7 b m ∷ [])
+passVerdict z l m w = let b = boardOf z l in given (no6 z b w ∷ no7 b m ∷ [])
 
 abbrev pub passing : Size → List ℕ → ℕ → ℕ → Reply Body
 passing z l m w = replyBy (passVerdict z l m w) l (stirs 0 w (passOn z l m w))

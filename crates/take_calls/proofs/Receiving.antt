@@ -24,14 +24,14 @@ use Rattle.board.proofs.Meant.{messageMeant-message, messageMeant-none, number-
 use Rattle.paper.specs.declared.call.Call.{Call}
 use Rattle.paper.specs.declared.call.Call.the-variants.{Receive, CancelMessage}
 use Rattle.paper.specs.declared.answer.Refusal.the-variants.{NoSuchMessage, NoSuchTask, NotQueued, NotItsSender}
-use Rattle.paper.specs.Refusals.{Test, no4, no6, no12, no13, lowest}
+use Rattle.paper.specs.Refusals.{Test, no4, no6, no12, no13, given}
 use Rattle.stores.specs.declared.Body.the-variants.{Done, Stopped}
 use Rattle.stores.specs.Changes.{sets, clears, withMptr, hold}
 use Rattle.stores.specs.Moves.{messageBehind, queueOut}
 use Rattle.stores.specs.Effects.{takeFirst, emptied, cancelMessage}
 use Rattle.stores.specs.Answers.{Runner, presentMeant, Makes}
 use Rattle.stores.specs.Calls.{verdict, stepping}
-use Rattle.paper.proofs.Rows.{lowest-stop, lowest-on}
+use Rattle.paper.proofs.Rows.{given-stop, given-on}
 use Rattle.inner.proofs.Rows.{task-row, no-task-row}
 use Rattle.inner.proofs.Steps.{stops, does, one-goes}
 
@@ -124,37 +124,37 @@ module _ (z : Size) (l : List ℕ) {x : TaskMeant} (ex : Runner z l x) {c : Task
     abbrev placed : List Test
     placed = no6 z b v ∷ queued
 
-    runner : (verdict z l call ≡ lowest (no4 z w ∷ placed)) × (c ≡ taskNo (b .running))
+    runner : (verdict z l call ≡ given (no4 z w ∷ placed)) × (c ≡ taskNo (b .running))
     runner = one-goes z l call (no4 z w ∷ placed) refl ex runs
 
     -- 4: there is no such message
     pub cancel-no-message : meant ≡ means.NoMessage → Makes (Stopped NoSuchMessage) l (stepping z l call)
-    cancel-no-message e = stops z l call (runner .0 ∙ lowest-stop (no4 z w) placed (messageMeant-none z w (sym em ∙ e))) refl
+    cancel-no-message e = stops z l call (runner .0 ∙ given-stop (no4 z w) placed (messageMeant-none z w (sym em ∙ e))) refl
 
     module _ {m : MsgNo} (is : meant ≡ means.Message m) {from : TaskMeant} (ef : from ≡ presentMeant z b v) where
-      block : (verdict z l call ≡ lowest placed) × (m ≡ record { 0 = w })
-      block = let r = messageMeant-message z w m (sym em ∙ is) in (runner .0 ∙ lowest-on (no4 z w) placed (r .0), r .1)
+      block : (verdict z l call ≡ given placed) × (m ≡ record { 0 = w })
+      block = let r = messageMeant-message z w m (sym em ∙ is) in (runner .0 ∙ given-on (no4 z w) placed (r .0), r .1)
 
       -- 6: there is no such task
       pub cancel-no-task : from ≡ who.NoTask → Makes (Stopped NoSuchTask) l (stepping z l call)
-      cancel-no-task e = stops z l call (block .0 ∙ lowest-stop (no6 z b v) queued (no-task-row z b v (sym ef ∙ e))) refl
+      cancel-no-task e = stops z l call (block .0 ∙ given-stop (no6 z b v) queued (no-task-row z b v (sym ef ∙ e))) refl
 
       -- t is the test that it is in that queue
       module _ {k : TaskNo} (there : from ≡ who.Task k) {t : Bool} (et : t ≡ isQueuedAt (k .0) (place b (m .0))) where
-        queue : (verdict z l call ≡ lowest queued) × (k ≡ taskNo v)
-        queue = let r = task-row z b v k (sym ef ∙ there) in (block .0 ∙ lowest-on (no6 z b v) queued (r .0), r .1)
+        queue : (verdict z l call ≡ given queued) × (k ≡ taskNo v)
+        queue = let r = task-row z b v k (sym ef ∙ there) in (block .0 ∙ given-on (no6 z b v) queued (r .0), r .1)
 
         tested : t ≡ isQueuedAt v (place b w)
         tested = et ∙ (λ i. isQueuedAt (queue .1 i .0) (place b (block .1 i .0)))
 
         -- 12: it is not
         pub cancel-not-queued : not t ≡ true → Makes (Stopped NotQueued) l (stepping z l call)
-        cancel-not-queued e = stops z l call (queue .0 ∙ lowest-stop (no12 b w v) sent (ap not (sym tested) ∙ e)) refl
+        cancel-not-queued e = stops z l call (queue .0 ∙ given-stop (no12 b w v) sent (ap not (sym tested) ∙ e)) refl
 
         -- it is: u is its record and n the number of c
         module _ (in-it : not t ≡ false) {u : Message} {n : ℕ} (eu : u ≡ message b (m .0)) (en : n ≡ c .0) where
-          member : verdict z l call ≡ lowest sent
-          member = queue .0 ∙ lowest-on (no12 b w v) sent (ap not (sym tested) ∙ in-it)
+          member : verdict z l call ≡ given sent
+          member = queue .0 ∙ given-on (no12 b w v) sent (ap not (sym tested) ∙ in-it)
 
           sender : u .sptr ≡ message b w .sptr
           sender = (λ i. eu i .sptr) ∙ (λ i. message b (block .1 i .0) .sptr)
@@ -166,12 +166,12 @@ module _ (z : Size) (l : List ℕ) {x : TaskMeant} (ex : Runner z l x) {c : Task
           pub cancel-not-sender : u .sptr ≢ n → Makes (Stopped NotItsSender) l (stepping z l call)
           cancel-not-sender h =
               let other = ne-eqb (message b w .sptr) (b .running) (λ e. h (sender ∙ e ∙ sym number)) in
-              stops z l call (member ∙ lowest-stop (no13 b (b .running) w) [] (ap not other)) refl
+              stops z l call (member ∙ given-stop (no13 b (b .running) w) [] (ap not other)) refl
 
           -- c did: it takes the message back
           pub cancels : {d : List ℕ} → u .sptr ≡ n → d ≡ cancelMessage z l (c .0) (m .0) (k .0)
               → Makes (Done 0 (who.Task k)) d (stepping z l call)
           cancels h ed =
               let its = eq-eqb (message b w .sptr) (b .running) (sym sender ∙ h ∙ number) in
-              does z l call (member ∙ lowest-on (no13 b (b .running) w) [] (ap not its)) refl (ap who.Task (queue .1))
+              does z l call (member ∙ given-on (no13 b (b .running) w) [] (ap not its)) refl (ap who.Task (queue .1))
               (ed ∙ (λ i. cancelMessage z l (runner .1 i .0) (block .1 i .0) (queue .1 i .0)))

@@ -19,12 +19,12 @@ use Rattle.board.specs.Writes.{putTask}
 use Rattle.paper.specs.declared.call.Call.{Call}
 use Rattle.paper.specs.declared.call.Call.the-variants.{CancelTask}
 use Rattle.paper.specs.declared.answer.Refusal.the-variants.{NobodyRuns, NoSuchTask, TaskBusy}
-use Rattle.paper.specs.Refusals.{holdsOne, no3, no6, no10, lowest}
+use Rattle.paper.specs.Refusals.{holdsOne, no3, no6, no10, given}
 use Rattle.stores.specs.Moves.{orderOut}
 use Rattle.stores.specs.declared.Body.the-variants.{Done, Stopped}
 use Rattle.stores.specs.Answers.{Runner, presentMeant, Makes}
 use Rattle.stores.specs.Calls.{verdict, stepping}
-use Rattle.paper.proofs.Rows.{lowest-stop, lowest-on}
+use Rattle.paper.proofs.Rows.{given-stop, given-on}
 use Rattle.inner.proofs.Rows.{nobody-runs, one-runs, task-row, no-task-row}
 use Rattle.inner.proofs.Steps.{stops, does}
 
@@ -42,16 +42,16 @@ module _ (z : Size) (l : List ℕ) (k : ℕ) where
   module _ {x : TaskMeant} (d : Runner z l x) where
     -- 3: nobody
     pub cancel-nobody : x ≡ means.NoTask → Makes (Stopped NobodyRuns) l (stepping z l call)
-    cancel-nobody e = stops z l call (lowest-stop (no3 c) (no6 z b k ∷ no10 b k ∷ []) (nobody-runs z l d e)) refl
+    cancel-nobody e = stops z l call (given-stop (no3 c) (no6 z b k ∷ no10 b k ∷ []) (nobody-runs z l d e)) refl
 
     -- one does, and m is what k means
     module _ {r : TaskNo} (e : x ≡ means.Task r) {m : TaskMeant} (f : m ≡ presentMeant z b k) where
-      runs : verdict z l call ≡ lowest (no6 z b k ∷ no10 b k ∷ [])
-      runs = lowest-on (no3 c) (no6 z b k ∷ no10 b k ∷ []) (one-runs z l d e .0)
+      runs : verdict z l call ≡ given (no6 z b k ∷ no10 b k ∷ [])
+      runs = given-on (no3 c) (no6 z b k ∷ no10 b k ∷ []) (one-runs z l d e .0)
 
       -- 6: no task
       pub cancel-no-task : m ≡ means.NoTask → Makes (Stopped NoSuchTask) l (stepping z l call)
-      cancel-no-task g = stops z l call (runs ∙ lowest-stop (no6 z b k) (no10 b k ∷ []) (no-task-row z b k (sym f ∙ g))) refl
+      cancel-no-task g = stops z l call (runs ∙ given-stop (no6 z b k) (no10 b k ∷ []) (no-task-row z b k (sym f ∙ g))) refl
 
       -- task n, of record t
       module _ {n : TaskNo} (g : m ≡ means.Task n) {t : Task} (s : t ≡ task b (n .0)) where
@@ -61,11 +61,11 @@ module _ (z : Size) (l : List ℕ) (k : ℕ) where
         read : t ≡ task b k
         read = s ∙ ap (λ (j : TaskNo). task b (j .0)) meant
 
-        there : verdict z l call ≡ lowest (no10 b k ∷ [])
-        there = runs ∙ lowest-on (no6 z b k) (no10 b k ∷ []) (task-row z b k n (sym f ∙ g) .0)
+        there : verdict z l call ≡ given (no10 b k ∷ [])
+        there = runs ∙ given-on (no6 z b k) (no10 b k ∷ []) (task-row z b k n (sym f ∙ g) .0)
 
         busy : no10 b k .applies ≡ true → Makes (Stopped TaskBusy) l (stepping z l call)
-        busy y = stops z l call (there ∙ lowest-stop (no10 b k) [] y) refl
+        busy y = stops z l call (there ∙ given-stop (no10 b k) [] y) refl
 
         tested : (u : Bool) → eqb (t .mptr) 0 ≡ u → no10 b k .applies ≡ not u || holdsOne b k || has (t .stat) IWAT
         tested u h = rw (← read, h)
@@ -98,6 +98,6 @@ module _ (z : Size) (l : List ℕ) (k : ℕ) where
             pub cancels : {out after : List ℕ} {none : Task} → v ≡ false → out ≡ orderOut z l (n .0) → none ≡ noTask
                 → after ≡ putTask z out (n .0) none → Makes (Done 0 (means.Task n)) after (stepping z l call)
             cancels y o p a =
-                does z l call (there ∙ lowest-on (no10 b k) [] (waiting ∙ y)) refl (ap means.Task meant)
+                does z l call (there ∙ given-on (no10 b k) [] (waiting ∙ y)) refl (ap means.Task meant)
                 (a ∙ ap₂ (λ (x : List ℕ) (w : Task). putTask z x (n .0) w) o p
                 ∙ ap (λ (x : TaskNo). putTask z (orderOut z l (x .0)) (x .0) noTask) meant)

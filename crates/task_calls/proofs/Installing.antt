@@ -18,12 +18,12 @@ use Rattle.paper.specs.declared.call.Call.{Call}
 use Rattle.paper.specs.declared.call.Call.the-variants.{Install}
 use Rattle.paper.specs.declared.answer.Refusal.the-variants.{BadPriority, NotInstallable, BadStatus}
 use Rattle.paper.specs.Rules.{present, isThere, taskPrio}
-use Rattle.paper.specs.Refusals.{no7Install, no8, no9, lowest}
+use Rattle.paper.specs.Refusals.{no7Install, no8, no9, given}
 use Rattle.stores.specs.Moves.{orderInto}
 use Rattle.stores.specs.declared.Body.the-variants.{Done, Stopped}
 use Rattle.stores.specs.Answers.{Makes}
 use Rattle.stores.specs.Calls.{verdict, stepping}
-use Rattle.paper.proofs.Rows.{lowest-stop, lowest-on}
+use Rattle.paper.proofs.Rows.{given-stop, given-on}
 use Rattle.inner.proofs.Steps.{stops, does}
 
 module _ (z : Size) (l : List ℕ) (k s p sptr name : ℕ) where
@@ -41,18 +41,18 @@ module _ (z : Size) (l : List ℕ) (k s p sptr name : ℕ) where
   module _ {t : Bool} (e : t ≡ taskPrio p) where
     -- 7: it fails
     pub install-priority : not t ≡ true → Makes (Stopped BadPriority) l (stepping z l call)
-    install-priority h = stops z l call (lowest-stop (no7Install p) (no8 z b k ∷ no9 s ∷ []) (ap not (sym e) ∙ h)) refl
+    install-priority h = stops z l call (given-stop (no7Install p) (no8 z b k ∷ no9 s ∷ []) (ap not (sym e) ∙ h)) refl
 
     -- it doesn't, and m is what k means
     module _ (h : not t ≡ false) {m : TaskMeant} (d : m ≡ taskMeant z k) where
-      passed : verdict z l call ≡ lowest (no8 z b k ∷ no9 s ∷ [])
-      passed = lowest-on (no7Install p) (no8 z b k ∷ no9 s ∷ []) (ap not (sym e) ∙ h)
+      passed : verdict z l call ≡ given (no8 z b k ∷ no9 s ∷ [])
+      passed = given-on (no7Install p) (no8 z b k ∷ no9 s ∷ []) (ap not (sym e) ∙ h)
 
       -- 8: no task
       pub install-outside : m ≡ means.NoTask → Makes (Stopped NotInstallable) l (stepping z l call)
       install-outside f =
           let o = taskMeant-none z k (sym d ∙ f) in
-          stops z l call (passed ∙ lowest-stop (no8 z b k) (no9 s ∷ []) (ap (λ (x : Bool). x || present b k) o)) refl
+          stops z l call (passed ∙ given-stop (no8 z b k) (no9 s ∷ []) (ap (λ (x : Bool). x || present b k) o)) refl
 
       -- task n, of record r, and u is the test that it is there
       module _ {n : TaskNo} (f : m ≡ means.Task n) {r : Task} (g : r ≡ task b (n .0)) {u : Bool} (i : u ≡ isThere r) where
@@ -66,23 +66,23 @@ module _ (z : Size) (l : List ℕ) (k s p sptr name : ℕ) where
 
         -- 8: it is
         pub install-there : u ≡ true → Makes (Stopped NotInstallable) l (stepping z l call)
-        install-there j = stops z l call (passed ∙ lowest-stop (no8 z b k) (no9 s ∷ []) (there ∙ j)) refl
+        install-there j = stops z l call (passed ∙ given-stop (no8 z b k) (no9 s ∷ []) (there ∙ j)) refl
 
         -- it isn't, and v is the test of the status w
         module _ (j : u ≡ false) {w : Status} (o : w ≡ stored s) {v : Bool} (q : v ≡ no9 (w .0) .applies) where
-          absent : verdict z l call ≡ lowest (no9 s ∷ [])
-          absent = passed ∙ lowest-on (no8 z b k) (no9 s ∷ []) (there ∙ j)
+          absent : verdict z l call ≡ given (no9 s ∷ [])
+          absent = passed ∙ given-on (no8 z b k) (no9 s ∷ []) (there ∙ j)
 
           tested : no9 s .applies ≡ v
           tested = sym (q ∙ ap (λ (x : Status). no9 (x .0) .applies) o)
 
           -- 9: it is bad
           pub install-status : v ≡ true → Makes (Stopped BadStatus) l (stepping z l call)
-          install-status y = stops z l call (absent ∙ lowest-stop (no9 s) [] (tested ∙ y)) refl
+          install-status y = stops z l call (absent ∙ given-stop (no9 s) [] (tested ∙ y)) refl
 
           -- it is not: the task goes into the task queue
           pub installs : {after : List ℕ} → v ≡ false → after ≡ orderInto z l (n .0) (made w)
               → Makes (Done 0 (means.Task n)) after (stepping z l call)
           installs y a =
-              does z l call (absent ∙ lowest-on (no9 s) [] (tested ∙ y)) refl (ap means.Task meant)
+              does z l call (absent ∙ given-on (no9 s) [] (tested ∙ y)) refl (ap means.Task meant)
               (a ∙ ap₂ (λ (x : TaskNo) (t : Status). orderInto z l (x .0) (made t)) meant o)

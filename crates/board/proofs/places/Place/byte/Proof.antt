@@ -16,11 +16,14 @@ returns-3 : tie.Need-returns-3
 returns-3 c = rw (c .before .before .self2 .given .1) (ap (λ (x : ℕ). (64 + x) % 256) (c .number2 .ensures))
 
 returns-4 : tie.Need-returns-4
-returns-4 c = rw (c .before .self3 .given .1) (omega arith)
+returns-4 c = rw (c .enum-told2 .given .1)
+
+returns-5 : tie.Need-returns-5
+returns-5 c = rw (c .before .self3 .given .1) (omega arith)
 
 pub byte-spec : {M : Type 1} → statement M
 byte-spec =
     tie.close
     (tie.spec (λ c. search needs) (λ c. search needs) (λ c κs. search needs) (λ c. search needs) (λ c. search needs)
-    (λ c κs. search needs) (λ c. search needs) (λ c. search needs) (λ c. search needs) (λ c. search needs) returns
-    returns-2 returns-3 returns-4)
+    (λ c κs. search needs) (λ c. search needs) (λ c. search needs) (λ c. search needs) (λ c. search needs)
+    (λ c. search needs) returns returns-2 returns-3 returns-4 returns-5)
