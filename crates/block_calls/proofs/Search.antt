@@ -29,8 +29,8 @@ abbrev pub Sought : Board → ℕ → Type 0
 Sought b m = foundAbove isFree b m ≡ lowestFree b
 
 -- the code met another variant than Free
-not-free : (p : Place) → OneOf (1 ∷ 2 ∷ 3 ∷ []) (tagOf the-type p) → isFree p ≡ false
-not-free Free i = absurd (⊎-elim (λ f. omega arith) (λ j. ⊎-elim (λ f. omega arith) (λ f. omega arith) j) i)
+not-free : (p : Place) → OneOf (1 ∷ 2 ∷ 3 ∷ 4 ∷ []) (tagOf the-type p) → isFree p ≡ false
+not-free Free i = absurd (⊎-elim (λ f. omega arith) (λ j. ⊎-elim (λ f. omega arith) (λ n. ⊎-elim (λ f. omega arith) (λ f. omega arith) n) j) i)
 not-free (HeldBy k) i = refl
 not-free (QueuedAt k) i = refl
 not-free OnTimer i = refl
@@ -70,5 +70,5 @@ module _ (z : Size) (l : List ℕ) where
       free-here f ex = ex ∙ ap (messageMeant z) (found-here (λ x. x) isFree z l m inv h (ap isFree (sym e ∙ f)))
 
       -- it is not
-      pub free-above : OneOf (1 ∷ 2 ∷ 3 ∷ []) (tagOf the-type p) → Sought b (m + 1)
+      pub free-above : OneOf (1 ∷ 2 ∷ 3 ∷ 4 ∷ []) (tagOf the-type p) → Sought b (m + 1)
       free-above f = found-above (λ x. x) isFree z l m inv h (ap isFree (sym e) ∙ not-free p f)

@@ -1,7 +1,7 @@
 // Where a message is: the place byte, decoded. A byte that says nothing is kept as it is, so nothing is lost.
 ghost use mathlib.Core.Path.{_≡_};
 ghost use Prim.Native.Nat.{_%_};
-ghost use Rattle.board.specs.Places.{placeOf, placeByte, isHeldBy, isQueuedAt};
+ghost use Rattle.board.specs.Places.{placeOf, placeByte, isHeldBy, isQueuedAt, isOnTimer};
 use crate::numbers::Size;
 use crate::numbers::TaskMeant;
 use crate::numbers::TaskNo;
@@ -61,6 +61,18 @@ impl Place {
             Place::HeldBy(k) => k.number() == c.number(),
             Place::QueuedAt(_) => false,
             Place::OnTimer => false,
+            Place::Nowhere(_) => false,
+        }
+    }
+
+    pub fn is_on_timer(self) -> bool
+        ensures { λ res. ⌜ res ≡ isOnTimer self ⌝ }
+    {
+        match self {
+            Place::Free => false,
+            Place::HeldBy(_) => false,
+            Place::QueuedAt(_) => false,
+            Place::OnTimer => true,
             Place::Nowhere(_) => false,
         }
     }

@@ -24,7 +24,7 @@ use Rattle.board.specs.Numbers.{outside}
 use Rattle.board.specs.Records.{noTask}
 use Rattle.board.specs.Places.{placeOf, placeIn, isQueuedAt, isQueued}
 use Rattle.board.specs.Board.{Board, boardOf, placeArea, pieces, task}
-use Rattle.board.proofs.Codec.{length-places, place-free, place-held, place-receiver, place-nowhere}
+use Rattle.board.proofs.Codec.{length-places, place-free, place-held, place-receiver, place-timer, place-nowhere}
 use Rattle.board.proofs.Pieces.{outside-within}
 use Rattle.paper.specs.Rules.{isThere, present, nextTask, nextMessage, taskNumber, messageNumber, rule3, rule5At}
 use Rattle.paper.proofs.Which.{which-nth}
@@ -118,15 +118,16 @@ NamesTask z OnTimer = Unit {0}
 NamesTask z (Nowhere p) = Unit {0}
 
 place-named : (z : Size) (p : ℕ) → NamesTask z (placeOf z p)
-place-named z p = go (eqb p 0) refl (outside (z .tasks) p) refl (outside (z .tasks) (p - 64)) refl
+place-named z p = go (eqb p 0) refl (outside (z .tasks) p) refl (outside (z .tasks) (p - 64)) refl (eqb p 128) refl
   where
     go : (s : Bool) → eqb p 0 ≡ s → (t : Bool) → outside (z .tasks) p ≡ t → (u : Bool) → outside (z .tasks) (p - 64) ≡ u
-        → NamesTask z (placeOf z p)
-    go true e t f u g = subst (NamesTask z) (sym (place-free z p (eqb-true p 0 e))) tt
-    go false e true f true g = subst (NamesTask z) (sym (place-nowhere z p (eqb-false p 0 e) f g)) tt
-    go false e true f false g =
+        → (v : Bool) → eqb p 128 ≡ v → NamesTask z (placeOf z p)
+    go true e t f u g v i = subst (NamesTask z) (sym (place-free z p (eqb-true p 0 e))) tt
+    go false e true f true g true i = subst (NamesTask z) (sym (place-timer z p (eqb-true p 128 i) f g)) tt
+    go false e true f true g false i = subst (NamesTask z) (sym (place-nowhere z p (eqb-false p 0 e) (eqb-false p 128 i) f g)) tt
+    go false e true f false g v i =
         subst (NamesTask z) (sym (place-receiver z p (p - 64) (eqb-false p 0 e) f refl g)) (outside-within (z .tasks) (p - 64) g)
-    go false e false f u g = let r = outside-within (z .tasks) p f in subst (NamesTask z) (sym (place-held z p (r .0) (r .1))) tt
+    go false e false f u g v i = let r = outside-within (z .tasks) p f in subst (NamesTask z) (sym (place-held z p (r .0) (r .1))) tt
 
 mapped-at : {A B : Type 0} (P : B → Type 0) (f : A → B) → ((x : A) → P (f x)) → (l : List A) (i : ℕ) → i < length (map f l)
     → (none : B) → P (getD (map f l) i none)

@@ -15,12 +15,12 @@ use Rattle.board.proofs.places.Place.{the-type}
 -- ---- places: the code holds the place p as q
 module _ (p q : Place) (e : q ≡ p) where
   -- it met another variant than QueuedAt
-  pub not-queued : OneOf (0 ∷ 1 ∷ 3 ∷ []) (tagOf the-type q) → isQueued p ≡ false
+  pub not-queued : OneOf (0 ∷ 1 ∷ 3 ∷ 4 ∷ []) (tagOf the-type q) → isQueued p ≡ false
   not-queued h = ap isQueued (sym e) ∙ go q h
     where
-      go : (q : Place) → OneOf (0 ∷ 1 ∷ 3 ∷ []) (tagOf the-type q) → isQueued q ≡ false
+      go : (q : Place) → OneOf (0 ∷ 1 ∷ 3 ∷ 4 ∷ []) (tagOf the-type q) → isQueued q ≡ false
       go Free i = refl
       go (HeldBy k) i = refl
-      go (QueuedAt k) i = absurd (⊎-elim (λ f. omega arith) (λ j. ⊎-elim (λ f. omega arith) (λ f. omega arith) j) i)
+      go (QueuedAt k) i = absurd (⊎-elim (λ f. omega arith) (λ j. ⊎-elim (λ f. omega arith) (λ n. ⊎-elim (λ f. omega arith) (λ f. omega arith) n) j) i)
       go OnTimer i = refl
       go (Nowhere m) i = refl

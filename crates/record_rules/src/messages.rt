@@ -1,4 +1,4 @@
-// A message's record: R4 asks for zeros of a free one, and of one held or queued, whose task is there or not, for what its place needs.
+// A message's record: R4 asks for zeros of a free one, and of another, whose task is there or not, for what its place needs.
 ghost use mathlib.Core.Bool.{_&&_};
 ghost use mathlib.Core.Path.{_≡_};
 ghost use lib.Dec.{eqb, ltb};
@@ -66,4 +66,14 @@ pub fn good_queued(z: Size, u: Message, there: bool) -> bool
         return false;
     }
     true
+}
+
+// A message on the timer: RPTR and SPTR in range, LINK 0, its SPTR there, PRIO below FEH.
+pub fn good_on_timer(z: Size, u: Message, there: bool) -> bool
+    ensures { λ res. ⌜ res ≡ (goodPointers z u && eqb (u .link) 0 && there && ltb (u .prio) 0xFE) ⌝ }
+{
+    if !good_held(z, u, there) {
+        return false;
+    }
+    u.prio < 0xFE
 }

@@ -16,7 +16,7 @@ use Rattle.board.specs.declared.numbers.MessageMeant.the-variants.{Message, NoM
 use Rattle.board.specs.Numbers.{taskNo, msgNo, taskMeant, messageMeant}
 use Rattle.board.specs.Board.{Board, boardOf}
 use Rattle.paper.specs.declared.answer.Rule.the-variants.{R2, R3, R4, R5, R6}
-use Rattle.paper.specs.Rules.{present, firstReady, rule2At, rule3, rule4At, rule5At, rule6At}
+use Rattle.paper.specs.Rules.{present, firstReady, rule2At, rule3, rule5At, rule6At}
 use Rattle.order_rules.specs.declared.tasks.Order.{Order}
 use Rattle.order_rules.specs.declared.tasks.Order.the-variants as order
 use Rattle.order_rules.specs.Order.{orderFrom, listedBy}
@@ -27,7 +27,8 @@ use Rattle.queue_rules.proofs.Breaking.{breaking-none, breaking-task, breaking-
 use Rattle.rules.specs.declared.records.Tasks.{Tasks}
 use Rattle.rules.specs.declared.records.Messages.{Messages}
 use Rattle.rules.specs.declared.Checked.the-variants.{Broken, Passes}
-use Rattle.rules.specs.Checked.{messagesIf, messagesSeen, tasksIf, tasksSeen, betweenOf}
+use Rattle.rules.specs.declared.Edition.{Edition}
+use Rattle.rules.specs.Checked.{rule4Of, messagesIf, messagesSeen, tasksIf, tasksSeen, betweenOf}
 
 -- ---- R3's answer
 -- is it broken
@@ -53,7 +54,7 @@ not-back true t e = ap not e
 not-back false t e = ap not e
 
 -- ---- the board l
-module _ (z : Size) (l : List ℕ) where
+module _ (edition : Edition) (z : Size) (l : List ℕ) where
   abbrev b : Board
   b = boardOf z l
 
@@ -61,7 +62,7 @@ module _ (z : Size) (l : List ℕ) where
   r2 = each (rule2At b) (z .tasks)
 
   abbrev r4 : Bool
-  r4 = each (rule4At z b) (z .messages)
+  r4 = each (rule4Of edition z b) (z .messages)
 
   abbrev r5 : Bool
   r5 = each (rule5At z b) (z .tasks)
@@ -70,26 +71,26 @@ module _ (z : Size) (l : List ℕ) where
   r6 = each (rule6At b) (z .tasks)
 
   -- ---- R2 to R6: the first that fails, with the record
-  pub breaks2 : {k : TaskNo} → r2 ≡ false → k ≡ taskNo (smallestFailing (rule2At b) (z .tasks)) → Broken (R2 k) ≡ betweenOf z b
+  pub breaks2 : {k : TaskNo} → r2 ≡ false → k ≡ taskNo (smallestFailing (rule2At b) (z .tasks)) → Broken (R2 k) ≡ betweenOf edition z b
   breaks2 e n = rw (e, n)
 
   module _ (h2 : r2 ≡ true) where
-    pub breaks3 : rule3 z b ≡ false → Broken R3 ≡ betweenOf z b
+    pub breaks3 : rule3 z b ≡ false → Broken R3 ≡ betweenOf edition z b
     breaks3 e = rw (h2, e)
 
     module _ (h3 : rule3 z b ≡ true) where
-      pub breaks4 : {m : MsgNo} → r4 ≡ false → m ≡ msgNo (smallestFailing (rule4At z b) (z .messages)) → Broken (R4 m) ≡ betweenOf z b
+      pub breaks4 : {m : MsgNo} → r4 ≡ false → m ≡ msgNo (smallestFailing (rule4Of edition z b) (z .messages)) → Broken (R4 m) ≡ betweenOf edition z b
       breaks4 e n = rw (h2, h3, e, n)
 
       module _ (h4 : r4 ≡ true) where
-        pub breaks5 : {k : TaskNo} → r5 ≡ false → k ≡ taskNo (smallestFailing (rule5At z b) (z .tasks)) → Broken (R5 k) ≡ betweenOf z b
+        pub breaks5 : {k : TaskNo} → r5 ≡ false → k ≡ taskNo (smallestFailing (rule5At z b) (z .tasks)) → Broken (R5 k) ≡ betweenOf edition z b
         breaks5 e n = rw (h2, h3, h4, e, n)
 
         module _ (h5 : r5 ≡ true) where
-          pub breaks6 : {k : TaskNo} → r6 ≡ false → k ≡ taskNo (smallestFailing (rule6At b) (z .tasks)) → Broken (R6 k) ≡ betweenOf z b
+          pub breaks6 : {k : TaskNo} → r6 ≡ false → k ≡ taskNo (smallestFailing (rule6At b) (z .tasks)) → Broken (R6 k) ≡ betweenOf edition z b
           breaks6 e n = rw (h2, h3, h4, h5, e, n)
 
-          pub all-hold : {f : TaskMeant} → r6 ≡ true → f ≡ taskMeant z (firstReady z b) → Passes f ≡ betweenOf z b
+          pub all-hold : {f : TaskMeant} → r6 ≡ true → f ≡ taskMeant z (firstReady z b) → Passes f ≡ betweenOf edition z b
           all-hold e n = rw (h2, h3, h4, h5, e, n)
 
   -- ---- what the look at the tasks tells
@@ -120,19 +121,19 @@ module _ (z : Size) (l : List ℕ) where
       kept6 d = breaking-nobody z (rule6At b) (sym seen6 ∙ d)
 
   -- ---- and the look at the messages
-  module _ {y : Messages} (ey : y ≡ messagesSeen z b) where
-    seen4 : y .breaks4 ≡ messageMeant z (smallestFailing (rule4At z b) (z .messages))
+  module _ {y : Messages} (ey : y ≡ messagesSeen edition z b) where
+    seen4 : y .breaks4 ≡ messageMeant z (smallestFailing (rule4Of edition z b) (z .messages))
     seen4 =
         ap (λ (t : Messages). t .breaks4) ey
-        ∙ cond-holds (λ (t : Messages). t .breaks4 ≡ messageMeant z (smallestFailing (rule4At z b) (z .messages))) r4 _ _
-        (λ e. sym (ap (messageMeant z) (smallest-none (rule4At z b) (z .messages) e))) (λ e. refl)
+        ∙ cond-holds (λ (t : Messages). t .breaks4 ≡ messageMeant z (smallestFailing (rule4Of edition z b) (z .messages))) r4 _ _
+        (λ e. sym (ap (messageMeant z) (smallest-none (rule4Of edition z b) (z .messages) e))) (λ e. refl)
 
-    pub broken4 : {m : MsgNo} → y .breaks4 ≡ Message m → (r4 ≡ false) × (m ≡ msgNo (smallestFailing (rule4At z b) (z .messages)))
-    broken4 e = breaking-message z (rule4At z b) (sym seen4 ∙ e)
+    pub broken4 : {m : MsgNo} → y .breaks4 ≡ Message m → (r4 ≡ false) × (m ≡ msgNo (smallestFailing (rule4Of edition z b) (z .messages)))
+    broken4 e = breaking-message z (rule4Of edition z b) (sym seen4 ∙ e)
 
     module _ (e : y .breaks4 ≡ NoMessage) where
       pub kept4 : r4 ≡ true
-      kept4 = breaking-nothing z (rule4At z b) (sym seen4 ∙ e)
+      kept4 = breaking-nothing z (rule4Of edition z b) (sym seen4 ∙ e)
 
       -- so R5 is asked with the number of those queued
       module _ {t : TaskMeant} (et : t ≡ cond (saw (walked b (y .queued) (z .tasks)) (y .queued)) NoTask (breaking z (rule5At z b))) where
@@ -140,7 +141,7 @@ module _ (z : Size) (l : List ℕ) where
         seen5 =
             et
             ∙ ap (λ (s : Bool). cond s NoTask (breaking z (rule5At z b)))
-            (rule5-counted z l (y .queued) (ap (λ (t : Messages). t .queued) ey ∙ ap (λ (t : Bool). messagesIf z b t .queued) kept4))
+            (rule5-counted z l (y .queued) (ap (λ (t : Messages). t .queued) ey ∙ ap (λ (t : Bool). messagesIf edition z b t .queued) kept4))
             ∙ cond-holds (λ (t : TaskMeant). t ≡ breaking z (rule5At z b)) r5 NoTask _ (breaking-none z (rule5At z b)) (λ e. refl)
 
         pub broken5 : {k : TaskNo} → t ≡ Task k → (r5 ≡ false) × (k ≡ taskNo (smallestFailing (rule5At z b) (z .tasks)))

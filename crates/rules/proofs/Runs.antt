@@ -31,7 +31,7 @@ use Rattle.rules.specs.declared.Edition.{Edition}
 use Rattle.rules.specs.declared.Edition.the-variants.{Today, Old}
 use Rattle.rules.specs.declared.Checked.{Checked}
 use Rattle.rules.specs.declared.Checked.the-variants.{Broken, Passes}
-use Rattle.rules.specs.Checked.{betweenOf, leadsWith, runsWith, ranOf, oldRanOf, ranBy, rule1Of, checkedOf}
+use Rattle.rules.specs.Checked.{rule4Of, betweenOf, leadsWith, runsWith, ranOf, oldRanOf, ranBy, rule1Of, checkedOf}
 
 turned : (t : Bool) (x y : Checked) → cond t x y ≡ cond (not t) y x
 turned true x y = refl
@@ -155,14 +155,14 @@ module _ (z : Size) (l : List ℕ) where
       go (no n) = let k = first-numbered z b (length-tasks z l) n in mod-eq-of-lt (omega (arith, h, k .1))
 
   -- where R2 to R6 hold, R7 is what is tested of it
-  runs-first : rules2to6 z b ≡ true → runsWith b (b .running) (taskMeant z (firstReady z b)) ≡ rule7 z b
-  runs-first e = go (ℕ-discrete (firstReady z b) 0)
+  runs-first : (r4 : ℕ → Bool) → rules2to6 z b r4 ≡ true → runsWith b (b .running) (taskMeant z (firstReady z b)) ≡ rule7 z b
+  runs-first r4 e = go (ℕ-discrete (firstReady z b) 0)
     where
       f : ℕ
       f = firstReady z b
 
       is : rule7 z b ≡ cond (eqb f 0) (eqb (b .running) 0) (leadsWith b (b .running) f)
-      is = rule7-first z b (length-tasks z l) (tasks-listed z b (length-tasks z l) (rules3 z b e))
+      is = rule7-first z b (length-tasks z l) (tasks-listed z b (length-tasks z l) (rules3 z b r4 e))
 
       go : Dec (f ≡ 0) → runsWith b (b .running) (taskMeant z f) ≡ rule7 z b
       go (yes i) = ap (λ (k : ℕ). runsWith b (b .running) (taskMeant z k)) i ∙ sym (is ∙ ap (λ (t : Bool). cond t (eqb (b .running) 0) (leadsWith b (b .running) f)) (eq-eqb f 0 i))
@@ -179,28 +179,30 @@ module _ (z : Size) (l : List ℕ) where
   -- R1 holds
   module _ (edition : Edition) (h1 : rule1Of edition (b .running) (b .zeros) ≡ true) where
     -- one of R2 to R6 is broken
-    middle-fails : rules2to6 z b ≡ false → Broken (broken2to6 z b) ≡ checkedOf edition z b
-    middle-fails e = by edition h1
+    middle-fails : let r4 = rule4Of edition z b in rules2to6 z b r4 ≡ false → Broken (broken2to6 z b r4) ≡ checkedOf edition z b
+    middle-fails = by edition h1
       where
-        by : (edition : Edition) → rule1Of edition (b .running) (b .zeros) ≡ true → Broken (broken2to6 z b) ≡ checkedOf edition z b
-        by Today h = rw (h, e)
-        by Old h = rw (h, e)
+        by : (edition : Edition) → rule1Of edition (b .running) (b .zeros) ≡ true → let r4 = rule4Of edition z b in
+            rules2to6 z b r4 ≡ false → Broken (broken2to6 z b r4) ≡ checkedOf edition z b
+        by Today h e = rw (h, e)
+        by Old h e = rw (h, e)
 
     -- they hold: the first ready task decides
-    middle-holds : z .tasks < 256 → rules2to6 z b ≡ true → ranBy edition z b (taskMeant z (firstReady z b)) ≡ checkedOf edition z b
-    middle-holds small e = by edition h1
+    middle-holds : z .tasks < 256 → rules2to6 z b (rule4Of edition z b) ≡ true → ranBy edition z b (taskMeant z (firstReady z b)) ≡ checkedOf edition z b
+    middle-holds small = by edition h1
       where
-        by : (edition : Edition) → rule1Of edition (b .running) (b .zeros) ≡ true
+        by : (edition : Edition) → rule1Of edition (b .running) (b .zeros) ≡ true → rules2to6 z b (rule4Of edition z b) ≡ true
             → ranBy edition z b (taskMeant z (firstReady z b)) ≡ checkedOf edition z b
-        by Today h = rw (runs-first e, h, e)
-        by Old h = rw (first-number, first-small small, h, e) (turned (has (task b (firstReady z b) .stat) MHBS) _ _)
+        by Today h e = rw (runs-first (rule4Of Today z b) e, h, e)
+        by Old h e = rw (first-number, first-small small, h, e) (turned (has (task b (firstReady z b) .stat) MHBS) _ _)
 
     -- y is what they come to
-    module _ {y : Checked} (ey : y ≡ betweenOf z b) where
+    module _ {y : Checked} (ey : y ≡ betweenOf edition z b) where
       pub between-fails : {r : Rule} → y ≡ Broken r → y ≡ checkedOf edition z b
-      between-fails {r = r} e = go (rules2to6 z b) refl (sym e ∙ ey)
+      between-fails {r = r} e = go (rules2to6 z b (rule4Of edition z b)) refl (sym e ∙ ey)
         where
-          go : (t : Bool) → rules2to6 z b ≡ t → Broken r ≡ cond t (Passes (taskMeant z (firstReady z b))) (Broken (broken2to6 z b))
+          go : (t : Bool) → let r4 = rule4Of edition z b in rules2to6 z b r4 ≡ t
+              → Broken r ≡ cond t (Passes (taskMeant z (firstReady z b))) (Broken (broken2to6 z b r4))
               → y ≡ checkedOf edition z b
           go true d i = let f : _≡_ {A = ℕ} 0 1 = cc in absurd (omega arith)
           go false d i = e ∙ i ∙ middle-fails d
@@ -208,10 +210,10 @@ module _ (z : Size) (l : List ℕ) where
       -- first is the first ready task, and x what R7 comes to
       pub between-holds : {first : TaskMeant} {x : Checked} → z .tasks < 256 → y ≡ Passes first → x ≡ ranBy edition z b first
           → x ≡ checkedOf edition z b
-      between-holds {first = first} {x = x} small e ex = go (rules2to6 z b) refl (sym e ∙ ey)
+      between-holds {first = first} {x = x} small e ex = go (rules2to6 z b (rule4Of edition z b)) refl (sym e ∙ ey)
         where
-          go : (t : Bool) → rules2to6 z b ≡ t
-              → Passes first ≡ cond t (Passes (taskMeant z (firstReady z b))) (Broken (broken2to6 z b))
+          go : (t : Bool) → let r4 = rule4Of edition z b in rules2to6 z b r4 ≡ t
+              → Passes first ≡ cond t (Passes (taskMeant z (firstReady z b))) (Broken (broken2to6 z b r4))
               → x ≡ checkedOf edition z b
           go true d i = let j : first ≡ taskMeant z (firstReady z b) = cc in ex ∙ ap (ranBy edition z b) j ∙ middle-holds small d
           go false d i = let f : _≡_ {A = ℕ} 0 1 = cc in absurd (omega arith)

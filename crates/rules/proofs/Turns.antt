@@ -1,7 +1,7 @@
 -- The rules that ask each record by itself: bytes 1 to 3, and what a look at every record tells, turn by turn.
 -- Assumes nothing.
 use mathlib.Core.Path.{_≡_, refl, sym, ap, ap₂, _∙_}
-use mathlib.Core.Bool.{Bool, true, false, cond, _&&_}
+use mathlib.Core.Bool.{Bool, true, false, cond, not, _&&_}
 use mathlib.Core.Bool as bool
 use mathlib.Core.List.{List, [], _∷_}
 use Prim.Native.Nat.{ℕ, zero, _+_, _≤_, _<_}
@@ -15,13 +15,19 @@ use Rattle.board.specs.declared.numbers.Size.{Size}
 use Rattle.board.specs.declared.numbers.TaskMeant.{TaskMeant}
 use Rattle.board.specs.declared.numbers.TaskMeant.the-variants.{Task, NoTask}
 use Rattle.board.specs.declared.numbers.MessageMeant.the-variants.{NoMessage}
+use Rattle.board.specs.declared.records.Message.{Message}
+use Rattle.board.specs.declared.places.Place.{Place}
+use Rattle.board.specs.declared.places.Place.the-variants.{OnTimer}
+use Rattle.board.specs.Places.{isOnTimer}
 use Rattle.board.specs.Numbers.{outside, taskNo, taskMeant, messageMeant}
 use Rattle.board.specs.Board.{Board}
 use Rattle.board.proofs.Pieces.{within-outside}
-use Rattle.paper.specs.Rules.{present, allZero, rule2At, rule4At, rule6At}
+use Rattle.paper.specs.Rules.{present, allZero, goodMessage, rule2At, rule6At}
 use Rattle.queue_rules.specs.Walks.{counted, queued, breaking}
 use Rattle.queue_rules.proofs.Breaking.{breaking-is}
-use Rattle.rules.specs.Checked.{messagesOf, messagesIf, messagesSeen, tasksOf, tasksIf, tasksSeen, earlier}
+use Rattle.rules.specs.declared.Edition.{Edition}
+use Rattle.rules.specs.declared.Edition.the-variants.{Today, Old}
+use Rattle.rules.specs.Checked.{goodBy, rule4Of, messagesOf, messagesIf, messagesSeen, tasksOf, tasksIf, tasksSeen, earlier}
 
 -- ---- bytes 1 to 3
 -- they are read one by one, as 0 past the end
@@ -32,20 +38,37 @@ zeros-read (x ∷ y ∷ []) = refl
 zeros-read (x ∷ y ∷ u ∷ []) = refl
 zeros-read (x ∷ y ∷ u ∷ v ∷ l) = ap (λ (t : Bool). eqb u 0 && t) (bool.and-true (eqb v 0))
 
+-- ---- a message by either edition
+module _ (z : Size) (there : ℕ → Bool) (u : Message) where
+  -- the timer alone tells them apart: the place p is known to be q
+  pub good-off : (edition : Edition) (p q : Place) → p ≡ q → isOnTimer q ≡ false → (t : Bool) → t ≡ goodMessage z there u q
+      → t ≡ goodBy edition z there u p
+  good-off edition p q e off t h = h ∙ off-by edition ∙ ap (goodBy edition z there u) (sym e)
+    where
+      off-by : (edition : Edition) → goodMessage z there u q ≡ goodBy edition z there u q
+      off-by Today = refl
+      off-by Old = sym (ap (λ (t : Bool). goodMessage z there u q && not t) off ∙ bool.and-true (goodMessage z there u q))
+
+  -- where boards were saved there was none
+  pub good-old : (edition : Edition) → edition ≡ Old → false ≡ goodBy edition z there u OnTimer
+  good-old edition e =
+      sym (ap (λ (x : Edition). goodBy x z there u OnTimer) e ∙ bool.and-false (goodMessage z there u OnTimer))
+
 -- ---- a look at every message
-module _ (z : Size) (b : Board) where
+module _ (edition : Edition) (z : Size) (b : Board) where
   -- each up to m is good, and the next is not
-  pub messages-fail : (m : ℕ) → m < z .messages → each (rule4At z b) m ≡ true → rule4At z b (m + 1) ≡ false
-      → messagesOf (messageMeant z (m + 1)) 0 ≡ messagesSeen z b
+  pub messages-fail : (m : ℕ) → m < z .messages → each (rule4Of edition z b) m ≡ true → rule4Of edition z b (m + 1) ≡ false
+      → messagesOf (messageMeant z (m + 1)) 0 ≡ messagesSeen edition z b
   messages-fail m h e g =
-      ap (λ (n : ℕ). messagesOf (messageMeant z n) 0) (sym (smallest-is (rule4At z b) (z .messages) m h e g))
-      ∙ ap (messagesIf z b) (sym (each-fails (rule4At z b) (z .messages) (m + 1) (omega arith) (omega arith) g))
+      ap (λ (n : ℕ). messagesOf (messageMeant z n) 0) (sym (smallest-is (rule4Of edition z b) (z .messages) m h e g))
+      ∙ ap (messagesIf edition z b) (sym (each-fails (rule4Of edition z b) (z .messages) (m + 1) (omega arith) (omega arith) g))
 
-  pub messages-good : (n : ℕ) → each (rule4At z b) (z .messages) ≡ true → n ≡ counted (queued b) (z .messages)
-      → messagesOf NoMessage n ≡ messagesSeen z b
-  messages-good n e q = ap (messagesOf NoMessage) q ∙ ap (messagesIf z b) (sym e)
+  pub messages-good : (n : ℕ) → each (rule4Of edition z b) (z .messages) ≡ true → n ≡ counted (queued b) (z .messages)
+      → messagesOf NoMessage n ≡ messagesSeen edition z b
+  messages-good n e q = ap (messagesOf NoMessage) q ∙ ap (messagesIf edition z b) (sym e)
 
-  -- ---- a look at every task
+-- ---- a look at every task
+module _ (z : Size) (b : Board) where
   pub tasks-fail : (k : ℕ) → k < z .tasks → each (rule2At b) k ≡ true → rule2At b (k + 1) ≡ false
       → tasksOf (taskMeant z (k + 1)) NoTask 0 ≡ tasksSeen z b
   tasks-fail k h e g =

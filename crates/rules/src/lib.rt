@@ -1,7 +1,7 @@
 // CODE. The check of a board: does it keep R1 to R7, and who runs, or which rule is broken and at which record? Each answer is proved to be
 // the definition's (paper, Rules and Named). Each record is looked at a bounded number of times and each queue walked once, and once more
 // where R5 is broken; the looks at the records count for R3 and R5. The rules of today and those of saved boards (paper, Conversion) share
-// R2 to R6.
+// R2 to R6, but that no message was on the timer then.
 pub mod records;
 pub mod runner;
 
@@ -35,11 +35,11 @@ pub enum Checked {
     Passes(TaskMeant),
 }
 
-// R2 to R6, the same in both editions; where they hold, the first ready task. The answer has the form of the whole check's, so that a
-// broken rule is handed on as it is.
-fn check_2_to_6(z: Size, l: &[u8]) -> Checked
+// R2 to R6 by this edition; where they hold, the first ready task. The answer has the form of the whole check's, so that a broken rule is
+// handed on as it is.
+fn check_2_to_6(edition: Edition, z: Size, l: &[u8]) -> Checked
     requires { ⌜ (total z ≤ length (now l)) × (z .tasks < 256) ⌝ }
-    ensures { λ res. ⌜ res ≡ betweenOf z (boardOf z (now (l .entry))) ⌝ }
+    ensures { λ res. ⌜ res ≡ betweenOf edition z (boardOf z (now (l .entry))) ⌝ }
 {
     let tasks = survey_tasks(z, l);
     let breaks2 = tasks.breaks2;
@@ -50,7 +50,7 @@ fn check_2_to_6(z: Size, l: &[u8]) -> Checked
     let Order::Listed(first) = order else {
         return Checked::Broken(Rule::R3);
     };
-    let messages = survey_messages(z, l);
+    let messages = survey_messages(edition, z, l);
     let breaks4 = messages.breaks4;
     if let MessageMeant::Message(m) = breaks4 {
         return Checked::Broken(Rule::R4(m));
@@ -89,7 +89,7 @@ pub fn check_rules(edition: Edition, z: Size, l: &[u8]) -> Checked
     if !rule1_of(edition, l) {
         return Checked::Broken(Rule::R1);
     }
-    let between = check_2_to_6(z, l);
+    let between = check_2_to_6(edition, z, l);
     let Checked::Passes(first) = between else {
         return between;
     };

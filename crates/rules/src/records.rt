@@ -6,8 +6,10 @@ ghost use lib.Dec.{eqb};
 ghost use lib.ListN.{length, take, drop};
 ghost use Rattle.board.specs.Numbers.{taskMeant};
 ghost use Rattle.board.specs.Board.{total, boardOf};
-ghost use Rattle.paper.specs.Rules.{present, allZero, goodMessage, goodFlags};
-ghost use Rattle.rules.specs.Checked.{messagesSeen, earlier, tasksSeen};
+ghost use Rattle.board.specs.declared.places.Place.the-variants.{OnTimer};
+ghost use Rattle.paper.specs.Rules.{present, allZero, goodFlags};
+ghost use Rattle.rules.specs.Checked.{goodBy, messagesSeen, earlier, tasksSeen};
+use crate::Edition;
 use board::numbers::MessageMeant;
 use board::numbers::MsgNo;
 use board::numbers::Size;
@@ -22,6 +24,7 @@ use lent::by_word::task_meant;
 use lent::bytes::byte;
 use lent::bytes::task_at;
 use record_rules::messages::good_held;
+use record_rules::messages::good_on_timer;
 use record_rules::messages::good_queued;
 use record_rules::messages::zero_message;
 use record_rules::tasks::good_flags;
@@ -57,21 +60,34 @@ fn present_at(z: Size, l: &[u8], k: TaskNo) -> bool
     t.present()
 }
 
-fn good_message(z: Size, l: &[u8], u: Message, p: Place) -> bool
+// A message on the timer, which there was none of where boards were saved.
+fn good_timed(edition: Edition, z: Size, l: &[u8], u: Message) -> bool
     requires { ⌜ total z ≤ length (now l) ⌝ }
-    ensures { λ res. ⌜ res ≡ goodMessage z (present (boardOf z (now (l .entry)))) u p ⌝ }
+    ensures { λ res. ⌜ res ≡ goodBy edition z (present (boardOf z (now (l .entry)))) u OnTimer ⌝ }
+{
+    let Edition::Today = edition else {
+        return false;
+    };
+    let t = task_meant(z, l, u.sptr);
+    good_on_timer(z, u, t.present())
+}
+
+fn good_message(edition: Edition, z: Size, l: &[u8], u: Message, p: Place) -> bool
+    requires { ⌜ total z ≤ length (now l) ⌝ }
+    ensures { λ res. ⌜ res ≡ goodBy edition z (present (boardOf z (now (l .entry)))) u p ⌝ }
 {
     match p {
         Place::Free => zero_message(u),
         Place::HeldBy(k) => good_held(z, u, present_at(z, l, k)),
         Place::QueuedAt(k) => good_queued(z, u, present_at(z, l, k)),
+        Place::OnTimer => good_timed(edition, z, l, u),
         Place::Nowhere(_) => false,
     }
 }
 
-pub fn survey_messages(z: Size, l: &[u8]) -> Messages
+pub fn survey_messages(edition: Edition, z: Size, l: &[u8]) -> Messages
     requires { ⌜ total z ≤ length (now l) ⌝ }
-    ensures { λ res. ⌜ res ≡ messagesSeen z (boardOf z (now (l .entry))) ⌝ }
+    ensures { λ res. ⌜ res ≡ messagesSeen edition z (boardOf z (now (l .entry))) ⌝ }
 {
     let most = z.messages;
     let mut m: u16 = 0;
@@ -80,7 +96,7 @@ pub fn survey_messages(z: Size, l: &[u8]) -> Messages
         m += 1;
         let u = message_meant(z, l, m);
         let p = place_meant(z, l, m);
-        if !good_message(z, l, u, p) {
+        if !good_message(edition, z, l, u, p) {
             return Messages {
                 breaks4: MsgNo::meant(z, m),
                 queued: 0,

@@ -12,8 +12,8 @@ use Rattle.rules.proofs.check_2_to_6.Tie as tie
 returns : tie.Need-returns
 returns c =
     let a = c .before .before .before .before .before .args in
-    let n = broken2 (a .z) (now (a .l)) (c .before .before .before .survey-tasks .ensures) (c .before .breaks2 .given .1) in
-    breaks2 (a .z) (now (a .l)) (n .0) (n .1)
+    let n = broken2 (a .edition) (a .z) (now (a .l)) (c .before .before .before .survey-tasks .ensures) (c .before .breaks2 .given .1) in
+    breaks2 (a .edition) (a .z) (now (a .l)) (n .0) (n .1)
 
 returns-2 : tie.Need-returns-2
 returns-2 c =
@@ -21,9 +21,9 @@ returns-2 c =
     let a = t .before .before .before .before .args in
     let s2 = t .before .before .survey-tasks .ensures in
     let e2 = t .enum-told .given .1 in
-    let h2 = kept2 (a .z) (now (a .l)) s2 e2 in
-    breaks3 (a .z) (now (a .l)) h2
-    (out-of-order (a .z) (now (a .l)) (sym (c .enum-told2 .given .1) ∙ order-asked (a .z) (now (a .l)) s2 e2 (c .before .before .rule3 .ensures)))
+    let h2 = kept2 (a .edition) (a .z) (now (a .l)) s2 e2 in
+    breaks3 (a .edition) (a .z) (now (a .l)) h2
+    (out-of-order (a .edition) (a .z) (now (a .l)) (sym (c .enum-told2 .given .1) ∙ order-asked (a .edition) (a .z) (now (a .l)) s2 e2 (c .before .before .rule3 .ensures)))
 
 returns-3 : tie.Need-returns-3
 returns-3 c =
@@ -32,11 +32,11 @@ returns-3 c =
     let a = t .before .before .before .before .args in
     let s2 = t .before .before .survey-tasks .ensures in
     let e2 = t .enum-told .given .1 in
-    let h2 = kept2 (a .z) (now (a .l)) s2 e2 in
-    let s3 = sym (o .order .given .1) ∙ order-asked (a .z) (now (a .l)) s2 e2 (o .before .before .rule3 .ensures) in
-    let h3 = in-order (a .z) (now (a .l)) s3 in
-    let n = broken4 (a .z) (now (a .l)) (c .before .before .before .survey-messages .ensures) (c .before .breaks4 .given .1) in
-    breaks4 (a .z) (now (a .l)) h2 h3 (n .0) (n .1)
+    let h2 = kept2 (a .edition) (a .z) (now (a .l)) s2 e2 in
+    let s3 = sym (o .order .given .1) ∙ order-asked (a .edition) (a .z) (now (a .l)) s2 e2 (o .before .before .rule3 .ensures) in
+    let h3 = in-order (a .edition) (a .z) (now (a .l)) s3 in
+    let n = broken4 (a .edition) (a .z) (now (a .l)) (c .before .before .before .survey-messages .ensures) (c .before .breaks4 .given .1) in
+    breaks4 (a .edition) (a .z) (now (a .l)) h2 h3 (n .0) (n .1)
 
 returns-4 : tie.Need-returns-4
 returns-4 c =
@@ -46,14 +46,14 @@ returns-4 c =
     let a = t .before .before .before .before .args in
     let s2 = t .before .before .survey-tasks .ensures in
     let e2 = t .enum-told .given .1 in
-    let h2 = kept2 (a .z) (now (a .l)) s2 e2 in
-    let s3 = sym (o .order .given .1) ∙ order-asked (a .z) (now (a .l)) s2 e2 (o .before .before .rule3 .ensures) in
-    let h3 = in-order (a .z) (now (a .l)) s3 in
+    let h2 = kept2 (a .edition) (a .z) (now (a .l)) s2 e2 in
+    let s3 = sym (o .order .given .1) ∙ order-asked (a .edition) (a .z) (now (a .l)) s2 e2 (o .before .before .rule3 .ensures) in
+    let h3 = in-order (a .edition) (a .z) (now (a .l)) s3 in
     let s4 = q .before .before .survey-messages .ensures in
     let e4 = q .enum-told3 .given .1 in
-    let h4 = kept4 (a .z) (now (a .l)) s4 e4 in
-    let n = broken5 (a .z) (now (a .l)) s4 e4 (c .before .before .before .rule5 .ensures) (c .before .breaks5 .given .1) in
-    breaks5 (a .z) (now (a .l)) h2 h3 h4 (n .0) (n .1)
+    let h4 = kept4 (a .edition) (a .z) (now (a .l)) s4 e4 in
+    let n = broken5 (a .edition) (a .z) (now (a .l)) s4 e4 (c .before .before .before .rule5 .ensures) (c .before .breaks5 .given .1) in
+    breaks5 (a .edition) (a .z) (now (a .l)) h2 h3 h4 (n .0) (n .1)
 
 returns-5 : tie.Need-returns-5
 returns-5 c =
@@ -64,15 +64,15 @@ returns-5 c =
     let a = t .before .before .before .before .args in
     let s2 = t .before .before .survey-tasks .ensures in
     let e2 = t .enum-told .given .1 in
-    let h2 = kept2 (a .z) (now (a .l)) s2 e2 in
-    let s3 = sym (o .order .given .1) ∙ order-asked (a .z) (now (a .l)) s2 e2 (o .before .before .rule3 .ensures) in
-    let h3 = in-order (a .z) (now (a .l)) s3 in
+    let h2 = kept2 (a .edition) (a .z) (now (a .l)) s2 e2 in
+    let s3 = sym (o .order .given .1) ∙ order-asked (a .edition) (a .z) (now (a .l)) s2 e2 (o .before .before .rule3 .ensures) in
+    let h3 = in-order (a .edition) (a .z) (now (a .l)) s3 in
     let s4 = q .before .before .survey-messages .ensures in
     let e4 = q .enum-told3 .given .1 in
-    let h4 = kept4 (a .z) (now (a .l)) s4 e4 in
-    let h5 = kept5 (a .z) (now (a .l)) s4 e4 (w .before .before .rule5 .ensures) (w .enum-told4 .given .1) in
-    let n = broken6 (a .z) (now (a .l)) s2 e2 (c .before .breaks6 .given .1) in
-    breaks6 (a .z) (now (a .l)) h2 h3 h4 h5 (n .0) (n .1)
+    let h4 = kept4 (a .edition) (a .z) (now (a .l)) s4 e4 in
+    let h5 = kept5 (a .edition) (a .z) (now (a .l)) s4 e4 (w .before .before .rule5 .ensures) (w .enum-told4 .given .1) in
+    let n = broken6 (a .edition) (a .z) (now (a .l)) s2 e2 (c .before .breaks6 .given .1) in
+    breaks6 (a .edition) (a .z) (now (a .l)) h2 h3 h4 h5 (n .0) (n .1)
 
 returns-6 : tie.Need-returns-6
 returns-6 c =
@@ -83,15 +83,15 @@ returns-6 c =
     let a = t .before .before .before .before .args in
     let s2 = t .before .before .survey-tasks .ensures in
     let e2 = t .enum-told .given .1 in
-    let h2 = kept2 (a .z) (now (a .l)) s2 e2 in
-    let s3 = sym (o .order .given .1) ∙ order-asked (a .z) (now (a .l)) s2 e2 (o .before .before .rule3 .ensures) in
-    let h3 = in-order (a .z) (now (a .l)) s3 in
+    let h2 = kept2 (a .edition) (a .z) (now (a .l)) s2 e2 in
+    let s3 = sym (o .order .given .1) ∙ order-asked (a .edition) (a .z) (now (a .l)) s2 e2 (o .before .before .rule3 .ensures) in
+    let h3 = in-order (a .edition) (a .z) (now (a .l)) s3 in
     let s4 = q .before .before .survey-messages .ensures in
     let e4 = q .enum-told3 .given .1 in
-    let h4 = kept4 (a .z) (now (a .l)) s4 e4 in
-    let h5 = kept5 (a .z) (now (a .l)) s4 e4 (w .before .before .rule5 .ensures) (w .enum-told4 .given .1) in
-    let h6 = kept6 (a .z) (now (a .l)) s2 e2 (c .enum-told5 .given .1) in
-    all-hold (a .z) (now (a .l)) h2 h3 h4 h5 h6 (first-met (a .z) (now (a .l)) s3)
+    let h4 = kept4 (a .edition) (a .z) (now (a .l)) s4 e4 in
+    let h5 = kept5 (a .edition) (a .z) (now (a .l)) s4 e4 (w .before .before .rule5 .ensures) (w .enum-told4 .given .1) in
+    let h6 = kept6 (a .edition) (a .z) (now (a .l)) s2 e2 (c .enum-told5 .given .1) in
+    all-hold (a .edition) (a .z) (now (a .l)) h2 h3 h4 h5 h6 (first-met (a .edition) (a .z) (now (a .l)) s3)
 
 pub check-2-to-6-spec : {M : Type 1} → statement M
 check-2-to-6-spec =

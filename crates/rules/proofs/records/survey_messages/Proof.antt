@@ -11,21 +11,21 @@ use Rattle.links.proofs.Bools.{each-next}
 use Rattle.board.specs.declared.numbers.MessageMeant.{MessageMeant}
 use Rattle.board.specs.Board.{boardOf}
 use Rattle.board.specs.Places.{isQueued}
-use Rattle.paper.specs.Rules.{present, goodMessage, rule4At}
+use Rattle.paper.specs.Rules.{present}
 use Rattle.queue_rules.specs.Walks.{counted, queued}
 use Rattle.queue_rules.proofs.Turns.{count-starts, count-yes, count-no, count-bound}
 use Rattle.queue_rules.proofs.Places.{not-queued}
-use Rattle.rules.specs.Checked.{messagesOf}
+use Rattle.rules.specs.Checked.{goodBy, rule4Of, messagesOf}
 use Rattle.rules.proofs.Turns.{messages-fail, messages-good}
 use Rattle.rules.proofs.records.survey_messages.Statement.{statement}
 use Rattle.rules.proofs.records.survey_messages.Tie as tie
 
 abbrev Inv-loop : tie.InvT-loop
-Inv-loop z l most m₀ n₀ m n =
-    (m ≤ most) × (most ≡ z .messages) × (each (rule4At z (boardOf z l)) m ≡ true) × (n ≡ counted (queued (boardOf z l)) m)
+Inv-loop edition z l most m₀ n₀ m n =
+    (m ≤ most) × (most ≡ z .messages) × (each (rule4Of edition z (boardOf z l)) m ≡ true) × (n ≡ counted (queued (boardOf z l)) m)
 
 abbrev μ-loop : tie.MeasureT-loop
-μ-loop z l most m₀ n₀ m n = most - m
+μ-loop edition z l most m₀ n₀ m n = most - m
 
 loop-holds : tie.Need-loop-holds Inv-loop μ-loop
 loop-holds c =
@@ -42,9 +42,9 @@ returns c =
     let a = g .before .before .before .before .before .before .before .args in
     let b = boardOf (a .z) (now (a .l)) in
     ap (λ (m : MessageMeant). messagesOf m 0) (c .meant .ensures)
-    ∙ messages-fail (a .z) b (p .m) (g .before .before .before .before .loop-test .taken) (p .inv .2)
+    ∙ messages-fail (a .edition) (a .z) b (p .m) (g .before .before .before .before .loop-test .taken) (p .inv .2)
     (sym (g .before .good-message .ensures
-    ∙ ap₂ (goodMessage (a .z) (present b)) (g .before .before .before .message-meant .ensures) (g .before .before .place-meant .ensures))
+    ∙ ap₂ (goodBy (a .edition) (a .z) (present b)) (g .before .before .before .message-meant .ensures) (g .before .before .place-meant .ensures))
     ∙ not-true _ (g .if1 .taken))
 
 add-queued : tie.Need-add-queued Inv-loop μ-loop
@@ -61,9 +61,9 @@ loop-again c =
     let b = boardOf (a .z) (now (a .l)) in (
       omega arith,
       refl,
-      each-next (rule4At (a .z) b) (p .m) (p .inv .2)
+      each-next (rule4Of (a .edition) (a .z) b) (p .m) (p .inv .2)
           (sym (g .before .good-message .ensures
-          ∙ ap₂ (goodMessage (a .z) (present b)) (g .before .before .before .message-meant .ensures) (g .before .before .place-meant .ensures))
+          ∙ ap₂ (goodBy (a .edition) (a .z) (present b)) (g .before .before .before .message-meant .ensures) (g .before .before .place-meant .ensures))
           ∙ not-false _ (g .if1 .left)),
       count-yes _ _ _ (p .inv .3) (ap isQueued (sym (g .before .before .place-meant .ensures) ∙ c .enum-told .given .1)),
     )
@@ -79,9 +79,9 @@ loop-again-2 c =
     let b = boardOf (a .z) (now (a .l)) in (
       omega arith,
       refl,
-      each-next (rule4At (a .z) b) (p .m) (p .inv .2)
+      each-next (rule4Of (a .edition) (a .z) b) (p .m) (p .inv .2)
           (sym (g .before .good-message .ensures
-          ∙ ap₂ (goodMessage (a .z) (present b)) (g .before .before .before .message-meant .ensures) (g .before .before .place-meant .ensures))
+          ∙ ap₂ (goodBy (a .edition) (a .z) (present b)) (g .before .before .before .message-meant .ensures) (g .before .before .place-meant .ensures))
           ∙ not-false _ (g .if1 .left)),
       count-no _ _ _ (p .inv .3)
           (not-queued _ (g .before .before .place-meant .result) (g .before .before .place-meant .ensures) (c .match .keys2)),
@@ -93,7 +93,7 @@ returns-2 c =
     let a = c .before .before .before .args in
     let b = boardOf (a .z) (now (a .l)) in
     let e : p .m ≡ a .z .messages = omega arith in
-    messages-good (a .z) b (p .queued) (sym (ap (each (rule4At (a .z) b)) e) ∙ p .inv .2) (p .inv .3 ∙ ap (counted (queued b)) e)
+    messages-good (a .edition) (a .z) b (p .queued) (sym (ap (each (rule4Of (a .edition) (a .z) b)) e) ∙ p .inv .2) (p .inv .3 ∙ ap (counted (queued b)) e)
 
 pub survey-messages-spec : {M : Type 1} → statement M
 survey-messages-spec =
