@@ -1,0 +1,3 @@
+pub mod Timer
+pub mod Writes
+pub mod Claims
