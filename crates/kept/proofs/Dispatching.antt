@@ -2,7 +2,7 @@
 -- that message, and R7 then holds.
 -- Assumes nothing.
 use mathlib.Core.Path.{_≡_, refl, sym, ap, _∙_, subst}
-use mathlib.Core.Logic.{_≢_, inl}
+use mathlib.Core.Logic.{_≢_, _⊎_, inl, inr}
 use mathlib.Core.Bool.{Bool, true, false, true≢false}
 use mathlib.Core.List.{List}
 use Prim.Native.Nat.{ℕ}
@@ -132,6 +132,8 @@ pub record Handing (z : Size) (order l : List ℕ) (d : Undispatched) : Type 0 w
   pub queues : ℕ → List ℕ
   pub delivered : ℕ
   pub runs : board .running ≡ runsNext z (d .board)
+  pub hands : let c = runsNext z (d .board) in let b = withRunning (d .board) c in
+      (board ≡ b) ⊎ (board ≡ clears (takeFirst z b c) c MHBS)  -- a message is handed over or none is
   pub ends : dispatch z l d ≡ accepted (d .value) (runsNext z (d .board)) delivered (bytesOf board)
   pub settled : Settled z board order queues
   pub rightly : RunsRightly board (runsNext z (d .board))
@@ -161,6 +163,7 @@ module _ (z : Size) (order l : List ℕ) (queues : ℕ → List ℕ) (v : ℕ) (
         queues = changed queues c (restOf (queues c));
         delivered = firstOf (queue z d c);
         runs = dispatch-frame z d c .running;
+        hands = inr refl;
         ends = rw (e, dispatch-delivers z d order queues sizes s c right e);
         settled = after-settled z d order queues sizes s c right e;
         rightly = after-rightly z d order queues sizes s c right e;
@@ -171,6 +174,7 @@ module _ (z : Size) (order l : List ℕ) (queues : ℕ → List ℕ) (v : ℕ) (
         queues = queues;
         delivered = 0;
         runs = refl;
+        hands = inl refl;
         ends = rw e;
         settled = s;
         rightly = right;

@@ -21,3 +21,4 @@ pub mod Statuses
 pub mod SameBoard
 pub mod Mail
 pub mod Crew
+pub mod Timers

@@ -72,17 +72,21 @@ module _ (z : Size) (l : List ℕ) (call : Call) (a : Sizes z) (h : (i : ℕ) �
   abbrev orderThen : List ℕ
   orderThen = orderAfter b (order z b) (touched b (b .running) call .move)
 
-  -- a call that no refusal stops leaves a board that is settled
-  pub settles : given (row z l b (b .running) call) ≡ Go → (queues : ℕ → List ℕ) × Settled z (d .board) orderThen queues
-  settles g =
+  -- where no refusal stops it the board fits and R1 to R7 hold, and no refusal of its own row applies
+  pub starts : given (row z l b (b .running) call) ≡ Go → Fits z b × Sound z b × (given (ownRow z b (b .running) call) ≡ Go)
+  starts g =
       let long = go-passed (no1 z l) (no2 z b ∷ ownRow z b (b .running) call) g in
       let rules = go-passed (no2 z b) (ownRow z b (b .running) call) (long .1) in
       let f = fits-board z l (record { long = eqb-true _ _ (not-false _ (long .0)); bytes = h }) in
-      let s = passing-sound z b a f (not-false (passes z b) (rules .0)) in
-      let t = walked-settled z b a f (s .order) (s .queues) (sound-settled z b a f s) in
-      let move = touched b (b .running) call .move in (
-        queuesAfter b (s .queues) move,
-        body-settles z b (order z b) (s .queues) (b .running) call a w t (sound-awake z b a f s) (s .idle) (rules .1),
+      (f, passing-sound z b a f (not-false (passes z b) (rules .0)), rules .1)
+
+  -- and its body leaves a board that is settled
+  pub settles : given (row z l b (b .running) call) ≡ Go → (queues : ℕ → List ℕ) × Settled z (d .board) orderThen queues
+  settles g =
+      let (f, s, own) = starts g in
+      let t = walked-settled z b a f (s .order) (s .queues) (sound-settled z b a f s) in (
+        queuesAfter b (s .queues) (touched b (b .running) call .move),
+        body-settles z b (order z b) (s .queues) (b .running) call a w t (sound-awake z b a f s) (s .idle) own,
       )
 
   -- what dispatch makes of it
