@@ -22,7 +22,7 @@ use Rattle.board.specs.declared.places.Place.{Place}
 use Rattle.board.specs.declared.places.Place.the-variants.{HeldBy, QueuedAt}
 use Rattle.board.specs.Numbers.{taskNo, Numbered}
 use Rattle.board.specs.Status.{WAIT, MHBS, has, isPresent, isReady, number, withFifo}
-use Rattle.board.specs.Places.{isQueued, isQueuedAt}
+use Rattle.board.specs.Places.{isQueued, isQueuedAt, isOnTimer}
 use Rattle.board.specs.Records.{noMessage, withPrio}
 use Rattle.board.specs.Board.{Board, task, message, place, withMessage}
 use Rattle.board.proofs.Numbered.{length-put}
@@ -41,7 +41,7 @@ use Rattle.kept.proofs.Holding.{unqueued-out, held-numbered, held-good, settled
 use Rattle.kept.proofs.Waiting.{task-numbered}
 use Rattle.kept.proofs.Placing.{newRecord, addressed-reads}
 use Rattle.kept.proofs.Bodies.{body-settles, body-frame}
-use Rattle.reached.proofs.Making.{Passing, Makes, makes-then, makes-call}
+use Rattle.reached.proofs.Making.{Passing, still-untimed, Makes, makes-then, makes-call}
 use Rattle.kept.proofs.SameBoard.{sheet, block, same-board}
 use Rattle.kept.proofs.Mail.{Waits, again, unchanged, back-message, back-place, held-stat, back-waits}
 use Rattle.kept.proofs.Mail.{Woke, wakes, stays, placed-message, placed-place, placed-stat, placing, placed-wakes}
@@ -102,6 +102,7 @@ module _ (z : Size) (a : Sizes z) (w : Board) (k : ℕ) (p : Passing z w k) (m :
     runs = p .runs;
     rightly = runs-alike w t k (λ j. refl) (λ j. refl) (p .rightly);
     idle = p .idle;
+    untimed = p .untimed;
   }
 
   -- ---- m sent to x
@@ -162,6 +163,7 @@ module _ (z : Size) (a : Sizes z) (w : Board) (k : ℕ) (p : Passing z w k) (m :
     runs = frame-d .running ∙ p .runs;
     rightly = runs-alike w d k (λ j. ap isReady (same-d j)) (λ j. ap number (frame-d .fields refl j .0)) (p .rightly);
     idle = ap (λ (r : Status). has r MHBS) (same-d k) ∙ p .idle;
+    untimed = still-untimed w d m (p .untimed) (λ j h. frame-d .places j (h, tt)) (ap isOnTimer place-d);
   }
 
   makes-send : Makes z w (Send m x ∷ []) d

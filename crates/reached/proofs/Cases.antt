@@ -8,13 +8,17 @@ use Prim.Native.Nat.{ℕ}
 use lib.Dec.{ltb, lit<, lit≤}
 use lib.ListN.{length}
 use borrow.Author.Tests.{ltb-true}
-use Rattle.links.proofs.Bools.{both, every}
+use Rattle.links.specs.Queue.{firstOf, which}
+use Rattle.links.proofs.Bools.{refuted, both, every}
+use Rattle.board.specs.declared.places.Place.the-variants.{Free}
+use Rattle.board.specs.Places.{isOnTimer}
 use Rattle.board.specs.Board.{Board, total, boardOf, bytesOf}
 use Rattle.board.proofs.Codec.{Small, small-at}
 use Rattle.paper.specs.Rules.{passes}
 use Rattle.paper.proofs.Slips.{tiny}
 use Rattle.paper.proofs.Notches.{heldWithLink, waitsWithQueue, evenInQueue, parkedWithInterrupt, laterRuns}
 use Rattle.paper.proofs.Notches.{senderAbsent, evenHeld, parkedWithQueue, earlierEqualDue}
+use Rattle.linked.proofs.Running.{which-none}
 use Rattle.kept.specs.Claims.{Sizes}
 use Rattle.reached.specs.Claims.{Reached}
 use Rattle.reached.proofs.Theorems.{has-past}
@@ -53,24 +57,25 @@ small [] e = tt
 small (x ∷ l) e = let r = both (ltb x 256) (every (λ x. ltb x 256) l) e in (ltb-true x 256 (r .0), small l (r .1))
 
 made : (b : Board) → length (bytesOf b) ≡ total tiny → every (λ x. ltb x 256) (bytesOf b) ≡ true
-    → passes tiny (boardOf tiny (bytesOf b)) ≡ true → Made b
-made b n e p =
+    → passes tiny (boardOf tiny (bytesOf b)) ≡ true → firstOf (which isOnTimer 1 (boardOf tiny (bytesOf b) .places)) ≡ 0 → Made b
+made b n e p t =
     has-past tiny tiny-sizes (bytesOf b) .0 (
       record {
         long = n;
         bytes = λ i. small-at (bytesOf b) i (small (bytesOf b) e);
       },
       p,
+      λ m. refuted _ (which-none Free isOnTimer (boardOf tiny (bytesOf b) .places) refl t m),
     )
 
 case-made-sender-absent : Made senderAbsent
-case-made-sender-absent = made senderAbsent refl refl refl
+case-made-sender-absent = made senderAbsent refl refl refl refl
 
 case-made-even-held : Made evenHeld
-case-made-even-held = made evenHeld refl refl refl
+case-made-even-held = made evenHeld refl refl refl refl
 
 case-made-parked-with-queue : Made parkedWithQueue
-case-made-parked-with-queue = made parkedWithQueue refl refl refl
+case-made-parked-with-queue = made parkedWithQueue refl refl refl refl
 
 case-made-earlier-equal-due : Made earlierEqualDue
-case-made-earlier-equal-due = made earlierEqualDue refl refl refl
+case-made-earlier-equal-due = made earlierEqualDue refl refl refl refl

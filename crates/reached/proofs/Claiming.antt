@@ -23,7 +23,7 @@ use Rattle.board.specs.declared.places.Place.{Place}
 use Rattle.board.specs.declared.places.Place.the-variants.{Free, HeldBy}
 use Rattle.board.specs.Numbers.{taskNo, Numbered}
 use Rattle.board.specs.Status.{WAIT, IWAT, MHBS, TCBB, has, withoutBit}
-use Rattle.board.specs.Places.{isFree}
+use Rattle.board.specs.Places.{isFree, isOnTimer}
 use Rattle.board.specs.Records.{noMessage, taskWithStat, withStat, withPrio, withSptr}
 use Rattle.board.specs.Board.{Board, put, task, message, place, withMessages, withPlaces, withMessage, withPlace}
 use Rattle.board.proofs.Bits.{withoutBit-other}
@@ -116,6 +116,7 @@ module _ (z : Size) (a : Sizes z) (m : ℕ) (b : Board) (mn : Numbered (z .messa
     runs = p .runs;
     rightly = none-runs y still;
     idle = p .idle;
+    untimed = λ j. nth-cases (λ (x : Place). isOnTimer x ≡ false) Free (b .places) m j Free (λ e. refl) (p .untimed j);
   }
 
   free-y : place y m ≡ Free
@@ -182,6 +183,7 @@ module _ (z : Size) (a : Sizes z) (m : ℕ) (b : Board) (mn : Numbered (z .messa
     runs = refl;
     rightly = runs-alike w (with r) k (λ j. refl) (λ j. refl) (passing-w .rightly);
     idle = passing-w .idle;
+    untimed = p .untimed;
   }
 
   read-with : (r : Message) → message (with r) m ≡ r

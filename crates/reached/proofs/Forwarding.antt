@@ -22,6 +22,7 @@ use Rattle.board.specs.declared.records.Message.{Message}
 use Rattle.board.specs.declared.places.Place.the-variants.{HeldBy, QueuedAt}
 use Rattle.board.specs.Numbers.{taskNo, Numbered}
 use Rattle.board.specs.Status.{WAIT, INTQ, MHBS, TCBB, has, withBit, withoutBit, isReady, number, fifo, withFifo}
+use Rattle.board.specs.Places.{isOnTimer}
 use Rattle.board.specs.Records.{withPrio}
 use Rattle.board.specs.Board.{Board, task, message, place}
 use Rattle.board.proofs.Bits.{withoutBit-other, withoutBit-small, set-cleared, clear-set, withBit-has}
@@ -42,7 +43,7 @@ use Rattle.kept.proofs.Taking.{out-settled}
 use Rattle.kept.proofs.Placing.{held-loose, place-settled}
 use Rattle.kept.proofs.Framed.{Framed, framed-back, framed-forward}
 use Rattle.past.specs.Past.{back, forwarded, queued}
-use Rattle.reached.proofs.Making.{Passing, Makes, makes-call}
+use Rattle.reached.proofs.Making.{Passing, still-untimed, Makes, makes-call}
 use Rattle.reached.proofs.Sweeping.{Earlier, Turned, unlisted}
 use Rattle.kept.proofs.Statuses.{unready}
 use Rattle.reached.proofs.Stages.{Quiet, Led}
@@ -161,6 +162,9 @@ module _ (z : Size) (a : Sizes z) (c k : ℕ) (n : Numbered (z .tasks) k) (b : B
   quiet-y : (j : ℕ) → Numbered (z .tasks) j → Quiet (task y j)
   quiet-y j h = bit-y INTQ j refl refl ∙ v .stage .all j h
 
+  held-y : place y m ≡ HeldBy (taskNo c)
+  held-y = back-place z b c m k (rw (s .fits .places) mn)
+
   abbrev passing-y : Passing z y c
   passing-y = record {
     order = o;
@@ -170,6 +174,7 @@ module _ (z : Size) (a : Sizes z) (c k : ℕ) (n : Numbered (z .tasks) k) (b : B
     rightly = fewer-runs b y c (λ j. fewer j (ℕ-discrete j k)) (λ j. ap number (frame-y .fields refl j .0))
         (ap isReady (stat-c (ℕ-discrete c k)) ∙ up) (p .rightly);
     idle = ap (λ (t : Status). has t MHBS) (stat-c (ℕ-discrete c k)) ∙ p .idle;
+    untimed = still-untimed b y m (p .untimed) (λ j h. frame-y .places j (h, tt)) (ap isOnTimer held-y);
   }
 
   abbrev led-y : Led z c y
@@ -183,9 +188,6 @@ module _ (z : Size) (a : Sizes z) (c k : ℕ) (n : Numbered (z .tasks) k) (b : B
   keeps-y j (no h) d = frame-y .mptr refl j h ∙ d
 
   -- ---- and forwarded it
-  held-y : place y m ≡ HeldBy (taskNo c)
-  held-y = back-place z b c m k (rw (s .fits .places) mn)
-
   there-y : present y k ≡ true
   there-y = bit-y TCBB k refl refl ∙ good .3
 

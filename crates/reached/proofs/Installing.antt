@@ -21,6 +21,7 @@ use Rattle.board.specs.declared.records.Task.{Task}
 use Rattle.board.specs.declared.places.Place.the-variants.{HeldBy}
 use Rattle.board.specs.Numbers.{taskNo, Numbered}
 use Rattle.board.specs.Status.{WAIT, IWAT, BIT5, INTQ, MHBS, TCBB, has, stored, withoutBit, isReady, number}
+use Rattle.board.specs.Places.{isOnTimer}
 use Rattle.board.specs.Records.{noTask, taskWithStat}
 use Rattle.board.specs.Board.{Board, task, place, withTask, withRunning}
 use Rattle.board.proofs.Bits.{withoutBit-other, withoutBit-has, withoutBit-small}
@@ -95,7 +96,8 @@ module _ (z : Size) (a : Sizes z) (q : List ℕ) (k : ℕ) (b : Board) (u : Unus
   sy : Settled z y q f
   sy =
       subst (λ (r : List ℕ). Settled z y r f) (without-split k q [] out ∙ append-nil q)
-      (settled-cancel z b whole f a s k there (v .all k n .0) none-held)
+      (settled-cancel z b whole f a s k there (v .all k n .0) none-held
+      (λ m e h. true≢false (sym (ap isOnTimer e) ∙ p .untimed m)))
 
   gone : task y k ≡ noTask
   gone = task-put (withOrder b l) k noTask (rw (order-length b l, s .fits .tasks) n)
@@ -129,6 +131,7 @@ module _ (z : Size) (a : Sizes z) (q : List ℕ) (k : ℕ) (b : Board) (u : Unus
     runs = order-running b l ∙ p .runs;
     rightly = none-runs y still-y;
     idle = refl;
+    untimed = λ m. ap isOnTimer (order-place b l m) ∙ p .untimed m;
   }
 
   unused-y : Unused z q y

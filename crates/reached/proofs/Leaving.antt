@@ -2,7 +2,7 @@
 -- Assumes nothing.
 use mathlib.Core.Path.{_≡_, refl, sym, ap, _∙_, subst}
 use mathlib.Core.Logic.{_≢_, inr}
-use mathlib.Core.Bool.{Bool, true, false, not, _||_, true≢false}
+use mathlib.Core.Bool.{Bool, true, false, not, _&&_, _||_, true≢false}
 use mathlib.Core.List.{List, [], _∷_}
 use Prim.Native.Nat.{ℕ, _<_}
 use native.Mathlib.Omega.{arith}
@@ -11,7 +11,7 @@ use lib.Dec.{eqb, lit<}
 use borrow.Author.Tests.{eq-eqb, ne-eqb, eqb-false, not-true}
 use Rattle.links.specs.Queue.{firstOf, which, goesBefore, insert, without}
 use Rattle.links.specs.Chain.{Out}
-use Rattle.links.proofs.Bools.{cond-holds, each-at}
+use Rattle.links.proofs.Bools.{cond-holds, each-at, each-all}
 use Rattle.links.proofs.Members.{not-in-out}
 use Rattle.links.proofs.Removal.{without-insert}
 use Rattle.board.specs.declared.numbers.Size.{Size}
@@ -21,7 +21,7 @@ use Rattle.board.specs.declared.records.Message.{Message}
 use Rattle.board.specs.declared.places.Place.the-variants.{Free, HeldBy}
 use Rattle.board.specs.Numbers.{taskNo, Numbered}
 use Rattle.board.specs.Status.{IWAT, INTQ, TCBB, has, stored, withBit, isReady, number}
-use Rattle.board.specs.Places.{isHeldBy}
+use Rattle.board.specs.Places.{isHeldBy, isOnTimer}
 use Rattle.board.specs.Records.{noTask, noMessage, taskWithStat}
 use Rattle.board.specs.Board.{Board, task, message, place, withTask, withRunning}
 use Rattle.board.proofs.Bits.{withBit-has, withBit-other}
@@ -30,7 +30,7 @@ use Rattle.paper.specs.declared.call.Call.the-variants.{Install, PostInterrupt,
 use Rattle.paper.specs.Rules.{isThere, present, taskNumber, order, ready}
 use Rattle.paper.specs.Changes.{sets, withOrder}
 use Rattle.paper.specs.Effects.{install, cancelTask}
-use Rattle.paper.specs.Refusals.{no6, no10, holdsOne, ownRow, Go, given}
+use Rattle.paper.specs.Refusals.{no6, no10, holdsOne, isAwaited, ownRow, Go, given}
 use Rattle.paper.proofs.Which.{nth-numbered}
 use Rattle.linked.proofs.Tests.{says-isHeldBy}
 use Rattle.linked.proofs.Running.{which-first}
@@ -43,6 +43,7 @@ use Rattle.kept.proofs.Installing.{install-settled}
 use Rattle.kept.proofs.Cancelling.{cancel-settled}
 use Rattle.kept.proofs.Dispatching.{settled-running, runs-byte}
 use Rattle.past.specs.Past.{back, here, unnamed, guestStat, guestPrio, left}
+use Rattle.reached.specs.Claims.{NoneOnTimer}
 use Rattle.reached.proofs.Making.{Passing, Makes, makes-then, makes-call}
 use Rattle.reached.proofs.Sweeping.{Turned, turned-here}
 use Rattle.reached.proofs.Stages.{Stage, Bare, Parked, parked-still}
@@ -144,6 +145,9 @@ module _ (z : Size) (a : Sizes z) (k : ℕ) (b : Board) (n : Numbered (z .tasks)
   se : Settled z e (insert goes k q) f
   se = settled-running z d (insert goes k q) f k byte-k sd
 
+  untimed-d : NoneOnTimer d
+  untimed-d m = ap isOnTimer (order-place (withTask b k guest) l m) ∙ p .untimed m
+
   bare-e : Stage z Bare k e
   bare-e = record {
     passing = record {
@@ -153,6 +157,7 @@ module _ (z : Size) (a : Sizes z) (k : ℕ) (b : Board) (n : Numbered (z .tasks)
       runs = refl;
       rightly = only-runs z e (sd .fits .tasks) k ready-d only;
       idle = none-due z d (insert goes k q) f sd mptr-d k;
+      untimed = untimed-d;
     };
     all = λ j h. (split (λ t. has t INTQ ≡ false) refl j (λ g. quiet-b j h), mptr-d j h);
   }
@@ -171,12 +176,18 @@ module _ (z : Size) (a : Sizes z) (k : ℕ) (b : Board) (n : Numbered (z .tasks)
           let m = firstOf (which (isHeldBy k) 1 (d .places)) in
           absurd (not-its m (sym (order-place (withTask b k guest) l m) ∙ says-isHeldBy k (place d m) .0 (r .1)))
 
+  -- nor is it SPTR of a message on the timer
+  not-awaited : isAwaited z e k ≡ false
+  not-awaited =
+      ap not (each-all (λ m. not (isOnTimer (place d m) && eqb (message d m .sptr) k)) (z .messages)
+      (λ m h g. rw (untimed-d m) refl))
+
   go-cancel : given (ownRow z e k (CancelTask k)) ≡ Go
   go-cancel =
-      let busy : no10 e k .applies ≡ false =
-      rw (eq-eqb (task d k .mptr) 0 (mptr-d k n), holds-none, ap (λ (t : Task). has (t .stat) IWAT) sheet-k) refl in
-      go-runs k (no6 z e k ∷ no10 e k ∷ []) (λ (h : k ≡ 0). omega (arith, n .0))
-      (go-there z e k (no10 e k ∷ []) n (ap isThere sheet-k) (go-from (no10 e k) [] busy refl))
+      let busy : no10 z e k .applies ≡ false =
+      rw (eq-eqb (task d k .mptr) 0 (mptr-d k n), holds-none, ap (λ (t : Task). has (t .stat) IWAT) sheet-k, not-awaited) refl in
+      go-runs k (no6 z e k ∷ no10 z e k ∷ []) (λ (h : k ≡ 0). omega (arith, n .0))
+      (go-there z e k (no10 z e k ∷ []) n (ap isThere sheet-k) (go-from (no10 z e k) [] busy refl))
 
   out : Out k q
   out = not-in-out k q (λ i. true≢false (sym (s .regular .linked .tasks .exact k .0 i) ∙ absent))

@@ -1,7 +1,8 @@
--- Calls that make one board of another: none, some and then others, one more. A board that passes, with its lists and who runs.
+-- Calls that make one board of another: none, some and then others, one more. A board that passes, with its lists and who runs,
+-- and with no message on the timer.
 -- Assumes nothing.
 use mathlib.Core.Path.{_≡_, refl, sym, ap, _∙_, subst}
-use mathlib.Core.Logic.{_⊎_, inl, inr}
+use mathlib.Core.Logic.{_≢_, _⊎_, inl, inr}
 use mathlib.Core.Bool.{Bool, true, false, cond, not}
 use mathlib.Core.List.{List, [], _∷_, _++_}
 use Prim.Native.Nat.{ℕ}
@@ -12,7 +13,8 @@ use Rattle.links.specs.Chain.{All}
 use Rattle.links.proofs.Members.{all-append}
 use Rattle.board.specs.declared.numbers.Size.{Size}
 use Rattle.board.specs.Status.{MHBS, has}
-use Rattle.board.specs.Board.{Board, total, bytesOf, task, withRunning}
+use Rattle.board.specs.Places.{isOnTimer}
+use Rattle.board.specs.Board.{Board, total, bytesOf, task, place, withRunning}
 use Rattle.paper.specs.declared.call.Call.{Call}
 use Rattle.paper.specs.Rules.{ready, mayRun, firstReady, runsNext}
 use Rattle.paper.specs.Refusals.{no1, no2, ownRow, row, Verdict, Go, given}
@@ -27,9 +29,9 @@ use Rattle.kept.proofs.Fitting.{board-bytes, bytes-fit}
 use Rattle.kept.proofs.Dispatching.{settled-running, next-rightly, runs-byte}
 use Rattle.kept.proofs.Theorems.{settled-passes}
 use Rattle.kept.proofs.Going.{go-from}
-use Rattle.reached.specs.Claims.{IsAccepted}
+use Rattle.reached.specs.Claims.{IsAccepted, NoneOnTimer}
 
--- ---- a board that passes, with its lists and the task c that runs
+-- ---- a board that passes, with its lists and the task c that runs; no message is on the timer
 pub record Passing (z : Size) (b : Board) (c : ℕ) : Type 0 where
   pub order : List ℕ
   pub queues : ℕ → List ℕ
@@ -37,6 +39,16 @@ pub record Passing (z : Size) (b : Board) (c : ℕ) : Type 0 where
   pub runs : b .running ≡ c
   pub rightly : RunsRightly b c
   pub idle : has (task b c .stat) MHBS ≡ false
+  pub untimed : NoneOnTimer b
+
+-- where one place changes, and not to the timer, it stays so
+pub still-untimed : (b d : Board) (m : ℕ) → NoneOnTimer b → ((j : ℕ) → j ≢ m → place d j ≡ place b j)
+    → isOnTimer (place d m) ≡ false → NoneOnTimer d
+still-untimed b d m h o e j = step (ℕ-discrete j m)
+  where
+    step : Dec (j ≡ m) → isOnTimer (place d j) ≡ false
+    step (yes i) = ap (λ (x : ℕ). isOnTimer (place d x)) i ∙ e
+    step (no i) = ap isOnTimer (o j i) ∙ h j
 
 -- ---- the calls, none refused, make b of y
 abbrev pub Makes : Size → Board → List Call → Board → Type 0

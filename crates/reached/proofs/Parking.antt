@@ -95,6 +95,7 @@ module _ (z : Size) (a : Sizes z) (b : Board) (p : Passing z b 0) (still : (j : 
     runs = refl;
     rightly = only-runs z y (settled-d .fits .tasks) k woken-ready woken-only;
     idle = ap (λ (x : Status). has x MHBS) stat-d ∙ withoutBit-other s IWAT MHBS refl ∙ st .flags k n .parked e .1;
+    untimed = p .untimed;
   }
 
   parked-again : waitInterrupt (awoken b k) k ≡ withRunning b k

@@ -65,6 +65,7 @@ module _ (z : Size) (a : Sizes z) (c k : ℕ) (b : Board) (n : Numbered (z .task
     rightly = runs-alike b y c (λ j. task-alike (λ (t : Task). isReady (t .stat)) b k j _ (ready-same s))
         (λ j. task-alike (λ (t : Task). number (t .prio)) b k j _ refl) (p .rightly);
     idle = task-alike (λ (t : Task). has (t .stat) MHBS) b k c _ (withoutBit-other s INTQ MHBS refl) ∙ p .idle;
+    untimed = p .untimed;
   }
 
   posted-again : post (clears b k INTQ) k ≡ b

@@ -95,6 +95,7 @@ module _ (z : Size) (a : Sizes z) (k : ℕ) (b : Board) (n : Numbered (z .tasks)
       runs = refl;
       rightly = only-runs z y (settled-d .fits .tasks) k ready-d only;
       idle = ap (λ (x : Status). has x MHBS) stat-d ∙ idle;
+      untimed = p .untimed;
     };
     all = λ j h. nth-cases Bare noTask (b .tasks) k j (taskWithStat (task b k) (withoutBit s WAIT))
         (λ g. (withoutBit-other s WAIT INTQ refl ∙ v .all k n .0 .0, v .all k n .0 .1)) (v .all j h .0);

@@ -14,7 +14,7 @@ use Rattle.board.specs.declared.places.Place.{Place}
 use Rattle.board.specs.declared.places.Place.the-variants.{Free, HeldBy}
 use Rattle.board.specs.Numbers.{taskNo, Numbered}
 use Rattle.board.specs.Status.{IWAT, has}
-use Rattle.board.specs.Places.{isFree, isQueued}
+use Rattle.board.specs.Places.{isFree, isQueued, isOnTimer}
 use Rattle.board.specs.Records.{noMessage}
 use Rattle.board.specs.Board.{Board, board, put, task, message, place, withPlace}
 use Rattle.board.proofs.Numbered.{put-nth, put-put}
@@ -27,7 +27,7 @@ use Rattle.linked.proofs.Tests.{says-isFree}
 use Rattle.linked.proofs.Chosen.{none-runs}
 use Rattle.kept.specs.Settled.{Settled}
 use Rattle.kept.specs.Claims.{Sizes}
-use Rattle.kept.proofs.Reading.{place-put, place-other}
+use Rattle.kept.proofs.Reading.{nth-cases, place-put, place-other}
 use Rattle.kept.proofs.Holding.{free-held, settled-place, held-good, held-fits}
 use Rattle.kept.proofs.Waiting.{task-numbered}
 use Rattle.kept.proofs.Going.{go-held, message-word}
@@ -76,6 +76,8 @@ module _ (z : Size) (a : Sizes z) (m : ℕ) (b : Board) (n : Numbered (z .messag
     runs = p .runs;
     rightly = none-runs y still;
     idle = refl;
+    untimed = λ j.
+        nth-cases (λ (x : Place). isOnTimer x ≡ false) Free (b .places) m j (HeldBy (taskNo k)) (λ h. refl) (p .untimed j);
   }
 
   hosted-y : Hosted z y

@@ -14,9 +14,10 @@ use Rattle.board.specs.declared.status.Status.{Status}
 use Rattle.board.specs.declared.records.Task.{Task}
 use Rattle.board.specs.declared.records.Message.{Message}
 use Rattle.board.specs.declared.places.Place.{Place}
-use Rattle.board.specs.declared.places.Place.the-variants.{Free, HeldBy, QueuedAt, Nowhere}
+use Rattle.board.specs.declared.places.Place.the-variants.{Free, HeldBy, QueuedAt, OnTimer, Nowhere}
 use Rattle.board.specs.Numbers.{taskNo, Numbered}
 use Rattle.board.specs.Status.{IWAT, INTQ, has, isReady}
+use Rattle.board.specs.Places.{isOnTimer}
 use Rattle.board.specs.Records.{noTask, noMessage, taskWithStat}
 use Rattle.board.specs.Board.{Board, task, message, place}
 use Rattle.paper.specs.declared.call.Call.{Call}
@@ -94,6 +95,7 @@ used-held z b v m h =
     step s (QueuedAt t) e g =
         let n = task-numbered z b (v .passing .order) (v .passing .queues) s (t .0) (g .3) in
         absurd (queued-starts z b (v .passing .order) (v .passing .queues) (s .regular .linked) (t .0) m n e (v .all (t .0) n .0))
+    step s OnTimer e g = absurd (true≢false (sym (ap isOnTimer e) ∙ v .passing .untimed m))
     step s (Nowhere x) e g = absurd g
 
 -- RPTR of a message, where it isn't 0, is the number of a task
@@ -110,6 +112,7 @@ receiver-numbered z b order queues s m h = step (place b m) (s .regular .places 
     step Free g = absurd (h (ap (λ (u : Message). u .rptr) g))
     step (HeldBy k) g = (omega (arith, h), g .0 .receiver)
     step (QueuedAt k) g = (omega (arith, h), g .0 .receiver)
+    step OnTimer g = (omega (arith, h), g .0 .receiver)
     step (Nowhere p) g = absurd g
 
 -- ---- the stages that say more

@@ -109,6 +109,7 @@ module _ (z : Size) (a : Sizes z) (c k : ℕ) (b : Board) (n : Numbered (z .task
       rightly = fewer-runs b y c slept-fewer (λ j. task-alike (λ (x : Task). number (x .prio)) b k j t refl)
           (ap (λ (x : Task). isReady (x .stat)) (task-other b k c t (λ d. other (sym d))) ∙ up) (p .rightly);
       idle = idle-y c;
+      untimed = p .untimed;
     }
 
     makes-post : Makes z y (PostInterrupt k ∷ []) b
@@ -134,6 +135,7 @@ module _ (z : Size) (a : Sizes z) (c k : ℕ) (b : Board) (n : Numbered (z .task
       runs = refl;
       rightly = none-runs w still;
       idle = refl;
+      untimed = p .untimed;
     }
 
     -- nobody is ready then

@@ -1,15 +1,19 @@
--- Document 02, Ask 4, as statements; their proofs are in proofs/Theorems. A reader must believe this file, and needs passes, run, blank
--- and Call of paper to read the first.
+-- Document 02, Ask 4, as statements; their proofs are in proofs/Theorems. A reader must believe this file, and needs passes, run,
+-- blank and Call of paper to read the first. They speak of the nineteen calls and of boards without place 128, which Ask 5 adds:
+-- none of the nineteen puts a message there (CallsLeaveTheTimer in Rattle.kept, specs/Claims).
 --   Reached z l      some list of the nineteen calls, made from the fresh board, ends in the bytes l
---   HasPast          a list is the bytes of a board that passes exactly if it is reached
---   PastRebuilds     the calls that past gives of a board that passes end in its very bytes, and none of them is refused
---   MadeFresh l calls d   code that meets the contracts of fresh and of the step (Rattle.station, src/lib.rt), lent l, makes it fresh, makes
---                    these calls and leaves d
---   CheckedExactly   of code: the check accepts lent bytes exactly if there are calls which, made on a fresh board, leave those bytes
+--   NoneOnTimer b    no message is on the timer, place 128
+--   HasPast          a list is the bytes of a board that passes, without place 128, exactly if it is reached
+--   PastRebuilds     the calls that past gives of a board that passes, without place 128, end in its very bytes, and none of them
+--                    is refused
+--   MadeFresh l calls d   code that meets the contracts of fresh and of the step (Rattle.station, src/lib.rt), lent l, makes it
+--                    fresh, makes these calls and leaves d
+--   CheckedExactly   of code: the check accepts lent bytes, and they are without place 128, exactly if there are calls which, made
+--                    on a fresh board, leave those bytes
 -- Assumes nothing.
 use mathlib.Core.Path.{_≡_}
 use mathlib.Core.Logic.{_↔_}
-use mathlib.Core.Bool.{true}
+use mathlib.Core.Bool.{true, false}
 use mathlib.Core.List.{List}
 use Prim.Native.Nat.{ℕ}
 use lib.ListN.{length, getD}
@@ -17,7 +21,8 @@ use Rattle.links.specs.Chain.{All}
 use Rattle.board.specs.declared.numbers.Size.{Size}
 use Rattle.board.specs.Numbers.{small}
 use Rattle.board.specs.Records.{Byte}
-use Rattle.board.specs.Board.{total, boardOf}
+use Rattle.board.specs.Places.{isOnTimer}
+use Rattle.board.specs.Board.{Board, total, boardOf, place}
 use Rattle.board.specs.Claims.{Bytes}
 use Rattle.paper.specs.declared.call.Call.{Call}
 use Rattle.paper.specs.declared.answer.Answer.{Answer}
@@ -34,9 +39,15 @@ use Rattle.past.specs.Past.{past}
 abbrev pub Reached : Size → List ℕ → Type 0
 Reached z l = (calls : List Call) × AllFit calls × (run z (blank z) calls .after ≡ l)
 
+-- no message is on the timer
+abbrev pub NoneOnTimer : Board → Type 0
+NoneOnTimer b = (m : ℕ) → isOnTimer (place b m) ≡ false
+
 -- Bytes: a list of bytes, as many as a board has
 abbrev pub HasPast : Type 0
-HasPast = (z : Size) → Sizes z → (l : List ℕ) → (Bytes z l × (passes z (boardOf z l) ≡ true)) ↔ Reached z l
+HasPast =
+    (z : Size) → Sizes z → (l : List ℕ)
+    → (Bytes z l × (passes z (boardOf z l) ≡ true) × NoneOnTimer (boardOf z l)) ↔ Reached z l
 
 -- ---- which past
 abbrev pub IsAccepted : Answer → Type 0
@@ -44,7 +55,7 @@ IsAccepted a = (v : ℕ) × (c : ℕ) × (m : ℕ) × (a ≡ Accepted v c m)
 
 abbrev pub PastRebuilds : Type 0
 PastRebuilds =
-    (z : Size) → Sizes z → (l : List ℕ) → Bytes z l → passes z (boardOf z l) ≡ true
+    (z : Size) → Sizes z → (l : List ℕ) → Bytes z l → passes z (boardOf z l) ≡ true → NoneOnTimer (boardOf z l)
     → let calls = past z (boardOf z l) in let made = run z (blank z) calls in
     AllFit calls × (made .after ≡ l) × All IsAccepted (made .answers)
 
@@ -56,5 +67,5 @@ MadeFresh l calls d =
 abbrev pub CheckedExactly : Type 0
 CheckedExactly =
     (l after : List ℕ) (a : Answer) → ((i : ℕ) → Byte (getD l i 0)) → Ends a after (check small l)
-    → IsAccepted a
+    → (IsAccepted a × NoneOnTimer (boardOf small l))
     ↔ ((calls : List Call) × AllFit calls × ((lent : List ℕ) → length lent ≡ total small → MadeFresh lent calls l))
