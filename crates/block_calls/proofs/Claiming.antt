@@ -29,7 +29,7 @@ use Rattle.paper.specs.declared.call.Call.the-variants.{Claim, Release, Prepare
 use Rattle.paper.specs.declared.answer.Refusal.the-variants.{NoneFree, BadSender}
 use Rattle.paper.specs.Effects.{lowestFree}
 use Rattle.paper.specs.Refusals.{no11, no14, given}
-use Rattle.linked.proofs.Running.{given-free}
+use Rattle.linked.proofs.Running.{lowest-free}
 use Rattle.stores.specs.declared.Held.{Held}
 use Rattle.stores.specs.declared.Held.the-variants as held
 use Rattle.stores.specs.declared.Body.the-variants.{Done, Stopped}
@@ -55,7 +55,7 @@ module _ (z : Size) (l : List ℕ) {x : TaskMeant} (ex : Runner z l x) {k : Task
       none : Dec (lowestFree b ≡ 0) → eqb (lowestFree b) 0 ≡ true
       none (yes p) = eq-eqb (lowestFree b) 0 p
       none (no n) =
-          let h = given-free b n .0 in
+          let h = lowest-free b n .0 in
           let i = within-outside (z .messages) (lowestFree b) (h .0) (let s = length-places z l in omega (arith, h .1)) in
           absurd (true≢false (sym (messageMeant-none z (lowestFree b) (sym ef ∙ e)) ∙ i))
 

@@ -19,7 +19,7 @@ use Rattle.board.specs.Board.{Board, task, place, withMessage}
 use Rattle.board.specs.Places.{isQueued}
 use Rattle.paper.specs.Rules.{present}
 use Rattle.paper.specs.Effects.{install, cancelTask, post, waitInterrupt, lowestFree, claim, release, prepare}
-use Rattle.linked.proofs.Running.{given-free}
+use Rattle.linked.proofs.Running.{lowest-free}
 use Rattle.kept.specs.Settled.{Settled}
 use Rattle.kept.specs.Touched.{IntoOrder, OutOfOrder, orderAfter}
 use Rattle.kept.specs.Claims.{Sizes}
@@ -80,7 +80,7 @@ module _ (z : Size) (b : Board) (q : List ℕ) (f : ℕ → List ℕ) (a : Sizes
   claim-same c d =
       same-at l s n
       (ap (λ (m : ℕ). withWhose p m (Held c)) (asked-free z b q f h l s n)
-      ∙ plain-place l s n b (lowestFree b) (HeldBy (taskNo c)) (given-free b d .0)) w
+      ∙ plain-place l s n b (lowestFree b) (HeldBy (taskNo c)) (lowest-free b d .0)) w
 
   module _ (c m : ℕ) (held : place b m ≡ HeldBy (taskNo c)) where
     -- a held message stands nowhere

@@ -26,7 +26,7 @@ use Rattle.paper.specs.Effects.{lowestFree, claim, release, prepare}
 use Rattle.paper.specs.Refusals.{no14, ownRow, Go, given}
 use Rattle.linked.specs.Linked.{Listing}
 use Rattle.linked.specs.Sound.{Pointers, PlaceGood}
-use Rattle.linked.proofs.Running.{present-numbered, placed-numbered, ready-says, given-free}
+use Rattle.linked.proofs.Running.{present-numbered, placed-numbered, ready-says, lowest-free}
 use Rattle.kept.specs.Settled.{FitsMessage, Fits, Settled, Awake, Fitting}
 use Rattle.kept.specs.Claims.{Sizes}
 use Rattle.kept.proofs.Reading.{nth-cases, message-put, message-other, held-placed}
@@ -124,7 +124,7 @@ module _ (z : Size) (b : Board) (order : List ℕ) (queues : ℕ → List ℕ) (
   pub settled-claim : (c : ℕ) → present b c ≡ true → lowestFree b ≢ 0 → Settled z (claim b c) order queues
   settled-claim c p h =
       let m : ℕ = lowestFree b in
-      let r = given-free b h in
+      let r = lowest-free b h in
       let k : PlaceGood z b m Free = subst (PlaceGood z b m) (r .1) (s .regular .places m (rw (s .fits .places) at (r .0))) in
       settled-place z b order queues s m (HeldBy (taskNo c)) (ap isQueued (r .1)) refl (held-fits c p) (free-held z b m c p k)
 

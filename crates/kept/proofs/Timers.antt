@@ -30,7 +30,7 @@ use Rattle.paper.specs.Changes.{clears, linkMessage, withQueue, takeFirst, hold
 use Rattle.paper.specs.Effects.{placeAt, addressed}
 use Rattle.paper.specs.Refusals.{Test, no3, no4, no5, no6, no7, no14, ownRow, row, Verdict, Go, Stop, given}
 use Rattle.paper.specs.Outcomes.{Outcome, Undispatched, judge, body, dispatch}
-use Rattle.linked.proofs.Running.{placed-numbered, given-free}
+use Rattle.linked.proofs.Running.{placed-numbered, lowest-free}
 use Rattle.kept.specs.Settled.{Settled, Fitting}
 use Rattle.kept.specs.Touched.{touched, Frame}
 use Rattle.kept.specs.Claims.{Sizes, CallsLeaveTheTimer}
@@ -111,7 +111,7 @@ module _ (z : Size) (b : Board) (order : List ℕ) (queues : ℕ → List ℕ) (
   body-clear c (Find name) g = tt
   body-clear c (CancelTask k) g = tt
   body-clear c Claim g =
-      let (n, e) = given-free b (claim-row b c g .1) in
+      let (n, e) = lowest-free b (claim-row b c g .1) in
       ((ap isOnTimer e, ap isOnTimer (place-put b _ (HeldBy (taskNo c)) n)), tt)
   body-clear c (Prepare m s p sptr) g =
       let e = ap isOnTimer (held-row z b c m (no14 z sptr ∷ []) g .1) in ((e, e), tt)

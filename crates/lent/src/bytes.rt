@@ -36,14 +36,14 @@ pub fn byte(l: &[u8], i: usize) -> u8
 }
 
 // The byte at i, where it is known to be there.
-fn byte_in(l: &[u8], i: usize) -> u8
+pub fn byte_in(l: &[u8], i: usize) -> u8
     requires { ⌜ i < length (now l) ⌝ }
     ensures { λ res. ⌜ res ≡ getD (now (l .entry)) i 0 ⌝ }
 {
     l[i]
 }
 
-fn put_byte(l: &mut [u8], i: usize, v: u8)
+pub fn put_byte(l: &mut [u8], i: usize, v: u8)
     requires { ⌜ i < length (now l) ⌝ }
     ensures { λ _. ⌜ now (l .exit) ≡ set (now (l .entry)) i v ⌝ }
 {
@@ -51,14 +51,14 @@ fn put_byte(l: &mut [u8], i: usize, v: u8)
 }
 
 // The word at i, low byte first.
-fn word(l: &[u8], i: usize) -> u16
+pub fn word(l: &[u8], i: usize) -> u16
     requires { ⌜ (i < 4000000) × (i + 1 < length (now l)) ⌝ }
     ensures { λ res. ⌜ res ≡ wordAt (now (l .entry)) i ⌝ }
 {
     byte_in(l, i) as u16 + 256 * (byte_in(l, i + 1) as u16)
 }
 
-fn put_word(l: &mut [u8], i: usize, w: u16)
+pub fn put_word(l: &mut [u8], i: usize, w: u16)
     requires { ⌜ (i < 4000000) × (i + 1 < length (now l)) ⌝ }
     ensures { λ _. ⌜ now (l .exit) ≡ set (set (now (l .entry)) i (w % 256)) (i + 1) (w / 256) ⌝ }
 {

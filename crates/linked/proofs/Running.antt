@@ -96,8 +96,8 @@ which-none none f l d e k p = step (which f 1 l) (which-nth none f l d 0 .0) (wh
     step (x ∷ q) a i e = true≢false (sym (a (inl (sym e))) ∙ d)
 
 -- the message that is claimed is one of the board's, and free
-pub given-free : (b : Board) → lowestFree b ≢ 0 → Numbered (length (b .places)) (lowestFree b) × (place b (lowestFree b) ≡ Free)
-given-free b h = let r = which-first Free isFree (b .places) h in (r .0, says-isFree (place b (lowestFree b)) .0 (r .1))
+pub lowest-free : (b : Board) → lowestFree b ≢ 0 → Numbered (length (b .places)) (lowestFree b) × (place b (lowestFree b) ≡ Free)
+lowest-free b h = let r = which-first Free isFree (b .places) h in (r .0, says-isFree (place b (lowestFree b)) .0 (r .1))
 
 -- ---- who is ready
 -- a ready task is present and waits for nothing

@@ -35,7 +35,7 @@ use Rattle.paper.specs.Effects.{lowestFree, claim, release, prepare}
 use Rattle.paper.specs.Refusals.{no11, no14, ownRow, Go, given}
 use Rattle.linked.specs.Sound.{PlaceGood}
 use Rattle.linked.proofs.Tests.{says-isFree}
-use Rattle.linked.proofs.Running.{given-free}
+use Rattle.linked.proofs.Running.{lowest-free}
 use Rattle.linked.proofs.Chosen.{runs-alike, none-runs}
 use Rattle.kept.specs.Settled.{Settled}
 use Rattle.kept.specs.Claims.{Sizes}
@@ -62,13 +62,13 @@ free-in b (suc i) n e =
     which-in Free isFree 1 (suc i) (b .places) (n .0) (omega (arith, n .1)) (rw d (ap isFree e))
 
 -- is the one before which all are used
-given-is : (b : Board) (m : ℕ) → Numbered (length (b .places)) m → place b m ≡ Free
+lowest-is : (b : Board) (m : ℕ) → Numbered (length (b .places)) m → place b m ≡ Free
     → ((j : ℕ) → 1 ≤ j → j < m → place b j ≢ Free) → lowestFree b ≡ m
-given-is b m n e h =
+lowest-is b m n e h =
     let i = free-in b m n e in
     let u : lowestFree b ≤ m = which-least Free isFree 1 m (b .places) i in
     let w : 1 ≤ lowestFree b = in-which Free isFree 1 (lowestFree b) (b .places) (first-in m (which isFree 1 (b .places)) i) .0 in
-    step u w (given-free b (λ d. absurd (omega (arith, w, d))) .1) (ℕ-discrete (lowestFree b) m)
+    step u w (lowest-free b (λ d. absurd (omega (arith, w, d))) .1) (ℕ-discrete (lowestFree b) m)
   where
     step : lowestFree b ≤ m → 1 ≤ lowestFree b → place b (lowestFree b) ≡ Free → Dec (lowestFree b ≡ m) → lowestFree b ≡ m
     step u w f (yes d) = d
@@ -199,20 +199,20 @@ module _ (z : Size) (a : Sizes z) (m : ℕ) (b : Board) (mn : Numbered (z .messa
       (record { stat = lit< tt; prio = lit< tt; link = lit< tt; rptr = lit< tt; sptr = lit< tt })
       (record { receiver = omega arith; sender = omega arith }) refl
 
-  given-d : lowestFree d ≡ m
-  given-d =
-      given-is d m (rw (py .settled .fits .places) mn) free-y
+  lowest-d : lowestFree d ≡ m
+  lowest-d =
+      lowest-is d m (rw (py .settled .fits .places) mn) free-y
       (λ j h g e. used m (mn .1) not-free j h (omega arith) (free-b j (λ i. absurd (omega (arith, g, i))) e))
 
   claim-is : claim d k ≡ with noMessage
   claim-is =
       let e : put (put (b .places) m Free) m (HeldBy (taskNo k)) ≡ b .places =
       put-put (b .places) m Free (HeldBy (taskNo k)) ∙ ap (put (b .places) m) (sym held) ∙ put-nth Free (b .places) m in
-      ap (λ (i : ℕ). withPlace d i (HeldBy (taskNo k))) given-d ∙ ap (withPlaces (with noMessage)) e
+      ap (λ (i : ℕ). withPlace d i (HeldBy (taskNo k))) lowest-d ∙ ap (withPlaces (with noMessage)) e
 
   go-claim : given (ownRow z d k Claim) ≡ Go
   go-claim =
-      let left : no11 d .applies ≡ false = ne-eqb (lowestFree d) 0 (λ e. absurd (omega (arith, e, given-d, mn .0))) in
+      let left : no11 d .applies ≡ false = ne-eqb (lowestFree d) 0 (λ e. absurd (omega (arith, e, lowest-d, mn .0))) in
       go-runs k (no11 d ∷ []) some (go-from (no11 d) [] left refl)
 
   makes-claim : Makes z y (PostInterrupt k ∷ Claim ∷ []) (with noMessage)

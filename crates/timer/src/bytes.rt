@@ -6,21 +6,24 @@ ghost use lib.ListN.{length};
 ghost use Rattle.timer.specs.Timer.{timerOf, entry};
 ghost use Rattle.timer.specs.Writes.{putNow, putEntry};
 use crate::entry::Entry;
+use lent::bytes::byte_in;
+use lent::bytes::put_byte;
+use lent::bytes::put_word;
+use lent::bytes::word;
 
 // The tick counter.
 pub fn now_at(s: &[u8]) -> u16
     requires { ⌜ 50 ≤ length (now s) ⌝ }
     ensures { λ res. ⌜ res ≡ timerOf (now (s .entry)) .ticks ⌝ }
 {
-    s[0] as u16 + 256 * (s[1] as u16)
+    word(s, 0)
 }
 
 pub fn put_now(s: &mut [u8], w: u16)
     requires { ⌜ 50 ≤ length (now s) ⌝ }
     ensures { λ _. ⌜ now (s .exit) ≡ putNow (now (s .entry)) w ⌝ }
 {
-    s[0] = (w % 256) as u8;
-    s[1] = (w / 256) as u8;
+    put_word(s, 0, w);
 }
 
 pub fn entry_at(s: &[u8], i: u16) -> Entry
@@ -35,8 +38,8 @@ pub fn entry_at(s: &[u8], i: u16) -> Entry
     }
     let o = (i as usize) * 3 - 1;
     Entry {
-        message: s[o],
-        due: s[o + 1] as u16 + 256 * (s[o + 2] as u16),
+        message: byte_in(s, o),
+        due: word(s, o + 1),
     }
 }
 
@@ -51,7 +54,6 @@ pub fn put_entry(s: &mut [u8], i: u16, e: Entry)
         return;
     }
     let o = (i as usize) * 3 - 1;
-    s[o] = e.message;
-    s[o + 1] = (e.due % 256) as u8;
-    s[o + 2] = (e.due / 256) as u8;
+    put_byte(s, o, e.message);
+    put_word(s, o + 1, e.due);
 }

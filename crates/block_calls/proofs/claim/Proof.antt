@@ -17,14 +17,14 @@ returns-2 : tie.Need-returns-2
 returns-2 c =
     let r = c .before .before .before .before .before .before .before .before in
     claim-stops (r .args .z) (now (r .args .l)) (r .pre .1) (c .before .before .before .before .before .c .given .1)
-    (c .before .before .given-free .ensures) (c .enum-told2 .given .1)
+    (c .before .before .lowest-free .ensures) (c .enum-told2 .given .1)
 
 returns-3 : tie.Need-returns-3
 returns-3 c =
     let r = c .before .before .before .before .before .before in
     let s = r .before .before .before .before .before in
     let t = s .before .before .before in
-    claims (t .args .z) (now (t .args .l)) (t .pre .1) (s .c .given .1) (r .before .before .given-free .ensures)
+    claims (t .args .z) (now (t .args .l)) (t .pre .1) (s .c .given .1) (r .before .before .lowest-free .ensures)
     (r .free .given .1) (c .number .ensures) (c .before .before .before .put-place .ensures)
 
 pub claim-spec : {M : Type 1} → statement M

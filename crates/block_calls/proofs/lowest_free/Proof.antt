@@ -73,8 +73,8 @@ returns-2 c =
     let a = s .before .before .before .before .before .args in
     free-none (a .z) (now (a .l)) (s .loop2 .m) (s .loop2 .inv .1) (omega arith)
 
-pub given-free-spec : {M : Type 1} → statement M
-given-free-spec =
+pub lowest-free-spec : {M : Type 1} → statement M
+lowest-free-spec =
     tie.close
     (tie.spec Inv-loop μ-loop Inv-loop2 μ-loop2 loop-holds (λ c κs. search needs) add-m loop-less loop-again loop2-holds
     add-m-2 (λ c κs. search needs) (λ c. search needs) (λ c κs. search needs) returns loop2-less loop2-again returns-2)

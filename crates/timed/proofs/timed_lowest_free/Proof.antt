@@ -11,7 +11,7 @@ returns c = simp (ne-eqb _ _ (c .if1 .taken))
 
 returns-2 : tie.Need-returns-2
 returns-2 c =
-    simp (eq-eqb _ _ (c .before .before .if1 .left)) (c .number .ensures ∙ ap numberOfMessage (c .before .given-free .ensures))
+    simp (eq-eqb _ _ (c .before .before .if1 .left)) (c .number .ensures ∙ ap numberOfMessage (c .before .lowest-free .ensures))
 
 pub timed-lowest-free-spec : {M : Type 1} → statement M
 timed-lowest-free-spec = tie.close (tie.spec returns (λ c κs. search needs) (λ c κs. search needs) returns-2)
