@@ -19,7 +19,7 @@ pub enum Answer {
     Refused(Refusal),
 }
 
-/// Why a call is refused. The one of the lowest number that applies is given.
+/// Why a call is refused. The one of the lowest number that applies is given; only 18 comes right behind 2.
 #[derive(Clone, Copy, Debug, PartialEq, Eq)]
 pub enum Refusal {
     /// The lent bytes are not as many as a board has.
@@ -52,6 +52,12 @@ pub enum Refusal {
     SenderNumber,
     /// Dispatch finds MHBS over an empty queue.
     NothingToDeliver,
+    /// Start: a delay of 0.
+    NoDelay,
+    /// Start: all sixteen timers are in use.
+    TimersInUse,
+    /// The timer buffer is not as long as it should be, or not in order, or does not fit the board.
+    TimerBuffer,
 }
 
 impl Refusal {
@@ -73,6 +79,9 @@ impl Refusal {
             Refusal::NotSender => 13,
             Refusal::SenderNumber => 14,
             Refusal::NothingToDeliver => 15,
+            Refusal::NoDelay => 16,
+            Refusal::TimersInUse => 17,
+            Refusal::TimerBuffer => 18,
         }
     }
 

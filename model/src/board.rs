@@ -32,14 +32,16 @@ pub const PLACES_AT: usize = 1348;
 
 /// Added to a task's number, the place of a message queued there.
 const QUEUED: u8 = 64;
+/// The place of a message on the timer.
+pub const ON_TIMER: u8 = 128;
 
-/// The word at a byte, low byte first.
-pub fn word(b: &Board, at: usize) -> u16 {
+/// The word at a byte of the board, or of another buffer, low byte first.
+pub fn word<const LEN: usize>(b: &[u8; LEN], at: usize) -> u16 {
     u16::from_le_bytes([b[at], b[at + 1]])
 }
 
 /// Writes the word at a byte.
-pub fn set_word(b: &mut Board, at: usize, word: u16) {
+pub fn set_word<const LEN: usize>(b: &mut [u8; LEN], at: usize, word: u16) {
     b[at..at + 2].copy_from_slice(&word.to_le_bytes());
 }
 
@@ -215,6 +217,11 @@ impl MsgNo {
         self.0.into()
     }
 
+    /// Its number as a byte.
+    pub fn byte(self) -> u8 {
+        self.0
+    }
+
     /// Where its record begins.
     pub fn at(self) -> usize {
         MESSAGES_AT + MESSAGE_LEN * (usize::from(self.0) - 1)
@@ -253,5 +260,15 @@ impl MsgNo {
     /// Its place byte.
     pub fn place(self, b: &Board) -> u8 {
         b[self.place_at()]
+    }
+
+    /// The task at which it is queued, by its place.
+    pub fn queued_at(self, b: &Board) -> Option<TaskNo> {
+        TaskNo::new(self.place(b).checked_sub(QUEUED)?.into())
+    }
+
+    /// Whether it is on the timer, by its place.
+    pub fn is_on_timer(self, b: &Board) -> bool {
+        self.place(b) == ON_TIMER
     }
 }

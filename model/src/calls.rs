@@ -155,7 +155,7 @@ fn task_meant(b: &Board, number: u16) -> Result<TaskNo, Refusal> {
 }
 
 /// The message that an argument means and the running task holds.
-fn held_message(b: &Board, c: TaskNo, number: u16) -> Result<MsgNo, Refusal> {
+pub(crate) fn held_message(b: &Board, c: TaskNo, number: u16) -> Result<MsgNo, Refusal> {
     let m = MsgNo::new(number).ok_or(Refusal::NoMessage)?;
     if m.place(b) != c.held_place() {
         return Err(Refusal::NotHeld);
@@ -165,7 +165,7 @@ fn held_message(b: &Board, c: TaskNo, number: u16) -> Result<MsgNo, Refusal> {
 
 /// Places a message in a task's queue and wakes a task that waits for one. Bit 0 asks for FIFO and is set only once the
 /// position is found.
-fn place(b: &mut Board, m: MsgNo, r: TaskNo) {
+pub(crate) fn place(b: &mut Board, m: MsgNo, r: TaskNo) {
     let fifo = b[m.prio_at()] & 1 == 1;
     let priority = m.priority(b);
     let mut slot = r.queue_slot();
@@ -231,7 +231,8 @@ fn install(b: &mut Board, task: u16, stat: u8, prio: u8, sptr: u16, name: u16) -
 fn cancel_task(b: &mut Board, task: u16) -> Done {
     let k = task_meant(b, task)?;
     let has_queue = word(b, k.queue_slot()) != 0;
-    if has_queue || k.status(b).has(Status::IWAT) || b[PLACES_AT..].contains(&k.held_place()) {
+    let awaits_timer = MsgNo::all().any(|m| m.is_on_timer(b) && word(b, m.sptr_at()) == k.number());
+    if has_queue || k.status(b).has(Status::IWAT) || b[PLACES_AT..].contains(&k.held_place()) || awaits_timer {
         return Err(Refusal::TaskBusy);
     }
     let mut slot = TASK_QUEUE;
@@ -333,12 +334,18 @@ fn give_back(b: &mut Board, c: TaskNo, message: u16) -> Done {
 
 /// Places a message that was sent before: it keeps its receiver, its sender and its priority.
 fn pass_on(b: &mut Board, m: MsgNo, receiver: u16) -> Done {
+    let r = receiver_of(b, m, receiver)?;
+    place(b, m, r);
+    Ok(0)
+}
+
+/// The task that such a message goes to.
+pub(crate) fn receiver_of(b: &Board, m: MsgNo, receiver: u16) -> Result<TaskNo, Refusal> {
     let r = task_meant(b, receiver)?;
     if m.priority(b) == SENDERS_PRIORITY {
         return Err(Refusal::Priority);
     }
-    place(b, m, r);
-    Ok(0)
+    Ok(r)
 }
 
 fn cancel_message(b: &mut Board, c: TaskNo, message: u16, receiver: u16) -> Done {

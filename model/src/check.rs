@@ -1,7 +1,7 @@
 //! The rules R1 to R7, and who is ready. Every record is read once, and once more where a queue leads to it.
 
 use crate::answer::{Answer, Refusal, Rule};
-use crate::board::{link, word, Board, MsgNo, Status, TaskNo, MESSAGE_LEN, RUNNING, TASKS, TASK_LEN, TASK_QUEUE};
+use crate::board::{link, word, Board, MsgNo, Status, TaskNo, MESSAGE_LEN, ON_TIMER, RUNNING, TASKS, TASK_LEN, TASK_QUEUE};
 
 /// Checks a board: refused with 1, or with 2 and the broken rule, or accepted with the running task.
 pub fn check(b: &[u8]) -> Answer {
@@ -25,16 +25,19 @@ pub(crate) fn answer(examined: Examined) -> Answer {
 /// All rules.
 pub(crate) fn examine(b: &Board) -> Examined {
     keeps(b[2..4] == [0; 2], Rule::R1)?;
-    examine_records(b)?;
+    examine_records(b, timed_record_is_good)?;
     keeps(running_is_good(b), Rule::R7(b[RUNNING]))?;
     Ok(running(b))
 }
 
-/// R2 to R6, which say nothing of bytes 1 to 3.
-pub(crate) fn examine_records(b: &Board) -> Result<(), Rule> {
+/// What R4 says of a message on the timer.
+pub(crate) type TimedRule = fn(&Board, MsgNo) -> bool;
+
+/// R2 to R6, which say nothing of bytes 1 to 3. R4 of a message on the timer is handed over: once there was no such place.
+pub(crate) fn examine_records(b: &Board, timed: TimedRule) -> Result<(), Rule> {
     each_keeps(TaskNo::all(), |k| task_is_good(b, k), Rule::R2)?;
     keeps(task_queue_is_good(b), Rule::R3)?;
-    let queued = queued_messages(b)?;
+    let queued = queued_messages(b, timed)?;
     each_keeps(present(b), |k| queue_is_good(b, k, queued[usize::from(k.number())]), Rule::R5)?;
     each_keeps(present(b), |k| status_fits(b, k), Rule::R6)
 }
@@ -101,12 +104,16 @@ pub(crate) fn task_queue_is_good(b: &Board) -> bool {
 }
 
 /// R4: how many messages are queued at each task.
-pub(crate) fn queued_messages(b: &Board) -> Result<[u8; TASKS as usize + 1], Rule> {
+pub(crate) fn queued_messages(b: &Board, timed: TimedRule) -> Result<[u8; TASKS as usize + 1], Rule> {
     let mut queued = [0; TASKS as usize + 1];
     for m in MsgNo::all() {
         let place = m.place(b);
         if place == 0 {
             keeps(b[m.at()..m.at() + MESSAGE_LEN].iter().all(|&byte| byte == 0), Rule::R4(m))?;
+            continue;
+        }
+        if place == ON_TIMER {
+            keeps(timed(b, m), Rule::R4(m))?;
             continue;
         }
         let is_queued = place >= 64;
@@ -118,11 +125,17 @@ pub(crate) fn queued_messages(b: &Board) -> Result<[u8; TASKS as usize + 1], Rul
     Ok(queued)
 }
 
-/// R4 for a message that is not free.
+/// R4 for a message that is held or queued.
 fn used_record_is_good(b: &Board, m: MsgNo, is_queued: bool) -> bool {
     let prio = b[m.prio_at()];
     let own = if is_queued { prio & 1 == 1 && prio != 0xFF } else { word(b, m.link_slot()) == 0 };
     own && word(b, m.rptr_at()) <= TASKS && word(b, m.sptr_at()) <= TASKS
+}
+
+/// R4 for a message on the timer: it can be returned at any tick. An even PRIO asks for LIFO then.
+pub(crate) fn timed_record_is_good(b: &Board, m: MsgNo) -> bool {
+    let goes_back = TaskNo::new(word(b, m.sptr_at())).is_some_and(|r| r.is_present(b));
+    goes_back && word(b, m.link_slot()) == 0 && word(b, m.rptr_at()) <= TASKS && b[m.prio_at()] < 0xFE
 }
 
 /// R5 for one task, at which so many messages are queued; each is met once for the reason given at the task queue. The limit

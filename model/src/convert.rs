@@ -18,10 +18,11 @@ pub fn convert(b: &mut [u8]) -> Answer {
     answer(examined)
 }
 
-/// The rules of an old board. R1 and R7 are not those of today, so a converted board with a running task breaks R1.
+/// The rules of an old board. R1 and R7 are not those of today, so a converted board with a running task breaks R1; and there was
+/// no timer, so a message placed on it breaks R4.
 fn examine_old(b: &Board) -> Examined {
     keeps(b[1..4] == [0; 3], Rule::R1)?;
-    examine_records(b)?;
+    examine_records(b, |_, _| false)?;
     match first_ready(b) {
         Some(c) if c.status(b).has(Status::MHBS) => Err(Rule::R7(c.byte())),
         first => Ok(first),

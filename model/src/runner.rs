@@ -6,10 +6,13 @@
 //! | [`random`] | numbers from a seed |
 //! | [`history`] | calls that fit a board, and boards that grow by them |
 //! | [`damage`] | faults put into a good board |
+//! | [`timer_damage`] | faults put into a good timer buffer |
 //! | [`cases`] | all cases of a seed |
 //! | [`program`] | the other program and its answers |
 //! | [`tally`] | what has been seen |
+//! | [`timers_seen`] | what has been seen of the timer |
 //! | [`slips`] | answers with a known slip in them, to test the run itself |
+//! | [`timer_slips`] | the slips of the timer |
 
 pub mod case;
 pub mod cases;
@@ -19,3 +22,6 @@ pub mod program;
 pub mod random;
 pub mod slips;
 pub mod tally;
+pub mod timer_damage;
+pub mod timer_slips;
+pub mod timers_seen;

@@ -18,7 +18,7 @@ fn main() -> io::Result<()> {
     let mut input = BufReader::new(io::stdin().lock());
     let mut output = BufWriter::new(io::stdout().lock());
     while let Some(case) = Case::read(&mut input)? {
-        let line = slip.map_or_else(|| case.reply().line(&case.board), |slip| slip.line(&case));
+        let line = slip.map_or_else(|| case.reply().line(&case), |slip| slip.line(&case));
         writeln!(output, "{line}")?;
     }
     output.flush()

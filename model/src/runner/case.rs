@@ -1,9 +1,17 @@
 //! A case of the protocol of `run_cases`, and the line that answers it.
+//!
+//! A case is the length of the board as a word, a call of nine bytes (kind, three words a, b and c, STAT, PRIO) and the board.
+//! Kind 0 checks the board, kind 254 makes it fresh, kind 253 converts an old one. Kind 200 starts a timer for message a with
+//! delay b, and kind 201 is a tick; with these two, and no others, the length of the timer buffer as a word and then the buffer
+//! come behind the board.
+//!
+//! The answer is a line: refusal, value, running, delivered, rule, record, then each byte of the board that has changed, as
+//! ` place=value`, and then each of the timer buffer, as ` tplace=value`.
 
 use std::fmt::Write;
 use std::io::{self, Read};
 
-use crate::{check, convert, fresh, step, Answer, Call, Rule};
+use crate::{check, convert, fresh, start, step, tick, Answer, Call, Rule};
 
 /// The kind that checks a board.
 pub const CHECK: u8 = 0;
@@ -11,11 +19,15 @@ pub const CHECK: u8 = 0;
 pub const FRESH: u8 = 254;
 /// The kind that converts an old board, between the drivers as well.
 pub const CONVERT: u8 = 253;
+/// The kind that starts a timer, between the drivers too: with these two the timer buffer is lent.
+pub const START: u8 = 200;
+/// The kind that is a tick.
+pub const TICK: u8 = 201;
 /// The number given for a kind that is no call.
 pub const NO_CALL: u8 = 255;
 
 /// The kinds that are something, with their names.
-pub const KINDS: [(u8, &str); 22] = [
+pub const KINDS: [(u8, &str); 24] = [
     (CHECK, "check"),
     (1, "install"),
     (2, "post interrupt"),
@@ -36,6 +48,8 @@ pub const KINDS: [(u8, &str); 22] = [
     (17, "receive and wait"),
     (18, "cancel message"),
     (19, "wait for interrupt"),
+    (START, "start"),
+    (TICK, "tick"),
     (FRESH, "fresh"),
     (CONVERT, "convert"),
 ];
@@ -60,6 +74,23 @@ impl Request {
         Call::from_kind(self.kind, self.a, self.b, self.c, self.stat, self.prio)
     }
 
+    /// Whether the timer buffer is lent beside the board.
+    pub fn takes_timer(&self) -> bool {
+        [START, TICK].contains(&self.kind)
+    }
+
+    /// Does what is asked on lent bytes; no answer if the kind is no call.
+    pub fn make(&self, board: &mut [u8], timer: &mut [u8]) -> Option<Answer> {
+        match self.kind {
+            CHECK => Some(check(board)),
+            FRESH => Some(fresh(board)),
+            CONVERT => Some(convert(board)),
+            START => Some(start(board, timer, self.a, self.b)),
+            TICK => Some(tick(board, timer)),
+            _ => self.call().map(|call| step(board, call)),
+        }
+    }
+
     /// The request in words.
     pub fn in_words(&self) -> String {
         let Request { kind, a, b, c, stat, prio } = self;
@@ -75,21 +106,30 @@ impl Request {
             7 | 10 | 11 | 14 | 15 => format!("{name}: message {a}"),
             8 | 9 | 12 | 13 => format!("{name}: message {a} to task {b}"),
             18 => format!("{name} {a} at task {b}"),
+            200 => format!("{name}: message {a} for {b} ticks"),
             _ => name.to_string(),
         }
     }
 }
 
-/// A request and the board before it.
+/// A request and the buffers before it.
 #[derive(Clone, Debug, PartialEq, Eq)]
 pub struct Case {
     /// What is asked.
     pub request: Request,
     /// The lent bytes, of any length that a word can say.
     pub board: Vec<u8>,
+    /// Those of the timer likewise, none where the kind takes no timer.
+    pub timer: Vec<u8>,
 }
 
 impl Case {
+    /// A case on these buffers, of which the timer is left out where the kind takes none.
+    pub fn new(request: Request, board: &[u8], timer: &[u8]) -> Case {
+        let timer = if request.takes_timer() { timer } else { &[] };
+        Case { request, board: board.to_vec(), timer: timer.to_vec() }
+    }
+
     /// Adds the case's bytes to those that a program reads.
     pub fn write(&self, out: &mut Vec<u8>) {
         let Request { kind, a, b, c, stat, prio } = self.request;
@@ -98,6 +138,10 @@ impl Case {
         [a, b, c].iter().for_each(|word| out.extend(word.to_le_bytes()));
         out.extend([stat, prio]);
         out.extend(&self.board);
+        if self.request.takes_timer() {
+            out.extend((self.timer.len() as u16).to_le_bytes());
+            out.extend(&self.timer);
+        }
     }
 
     /// The next case, none at the end; a case cut short is an error.
@@ -111,30 +155,37 @@ impl Case {
         from.read_exact(&mut r)?;
         let word = |at: usize| u16::from_le_bytes([r[at], r[at + 1]]);
         let request = Request { kind: r[0], a: word(1), b: word(3), c: word(5), stat: r[7], prio: r[8] };
-        let mut board = vec![0; u16::from_le_bytes(len).into()];
-        from.read_exact(&mut board)?;
-        Ok(Some(Case { request, board }))
+        let board = read_bytes(from, len)?;
+        let mut timer = Vec::new();
+        if request.takes_timer() {
+            from.read_exact(&mut len)?;
+            timer = read_bytes(from, len)?;
+        }
+        Ok(Some(Case { request, board, timer }))
     }
 
     /// What the model makes of the case.
     pub fn reply(&self) -> Reply {
-        let mut after = self.board.clone();
-        let answer = match (self.request.kind, self.request.call()) {
-            (CHECK, _) => Some(check(&after)),
-            (FRESH, _) => Some(fresh(&mut after)),
-            (CONVERT, _) => Some(convert(&mut after)),
-            (_, call) => call.map(|call| step(&mut after, call)),
-        };
-        Reply { answer, after }
+        let (mut after, mut timer) = (self.board.clone(), self.timer.clone());
+        let answer = self.request.make(&mut after, &mut timer);
+        Reply { answer, after, timer }
     }
 }
 
-/// An answer, none if the kind is no call, and the board afterwards.
+/// So many bytes as the word says.
+fn read_bytes(from: &mut impl Read, len: [u8; 2]) -> io::Result<Vec<u8>> {
+    let mut bytes = vec![0; u16::from_le_bytes(len).into()];
+    from.read_exact(&mut bytes)?;
+    Ok(bytes)
+}
+
+/// An answer, none if the kind is no call, and the board and the timer buffer afterwards.
 #[derive(Clone, Debug, PartialEq, Eq)]
 #[allow(missing_docs)]
 pub struct Reply {
     pub answer: Option<Answer>,
     pub after: Vec<u8>,
+    pub timer: Vec<u8>,
 }
 
 impl Reply {
@@ -155,19 +206,25 @@ impl Reply {
         }
     }
 
-    /// The line of the protocol: refusal, value, running, delivered, rule and record, and each byte that changed.
-    pub fn line(&self, before: &[u8]) -> String {
+    /// The line of the protocol: refusal, value, running, delivered, rule and record, and each byte of the case that changed.
+    pub fn line(&self, before: &Case) -> String {
         let (value, running, delivered) = match self.answer {
             Some(Answer::Accepted { value, running, delivered }) => (value, running, delivered),
             _ => (0, 0, 0),
         };
         let (rule, record) = self.rule().map_or((0, 0), |rule| (rule.number(), rule.record()));
         let mut line = format!("{} {value} {running} {delivered} {rule} {record}", self.refusal());
-        for (at, (old, new)) in before.iter().zip(&self.after).enumerate() {
-            if old != new {
-                write!(line, " {at}={new}").expect("a string takes any text");
-            }
-        }
+        write_changes(&mut line, "", &before.board, &self.after);
+        write_changes(&mut line, "t", &before.timer, &self.timer);
         line
+    }
+}
+
+/// Adds each byte that changed, with the mark of its buffer.
+fn write_changes(line: &mut String, mark: &str, before: &[u8], after: &[u8]) {
+    for (at, (old, new)) in before.iter().zip(after).enumerate() {
+        if old != new {
+            write!(line, " {mark}{at}={new}").expect("a string takes any text");
+        }
     }
 }

@@ -4,6 +4,7 @@ use super::case::{Case, Request, CHECK, CONVERT, FRESH};
 use super::damage::damage;
 use super::history::{wild, History};
 use super::random::Random;
+use super::timer_damage::{damage_timer, put_on_timer};
 use crate::board::{Board, BOARD_LEN, RUNNING};
 
 /// So many cases, always the same for a seed.
@@ -20,23 +21,24 @@ pub fn cases_of_seed(seed: u64, count: usize) -> Vec<Case> {
             continue;
         }
         let request = history.request(&mut random);
-        cases.push(Case { request, board: history.board.to_vec() });
+        cases.push(Case::new(request, &history.board, &history.timer));
         history.advance(&request);
     }
     cases
 }
 
-/// A case on the board as it stands, or on what damage makes of it; the history does not go on from there.
+/// A case on the buffers as they stand, or on what damage makes of them; the history does not go on from there.
 fn aside(history: &History, random: &mut Random) -> Case {
-    let board = history.board.to_vec();
+    let (board, timer) = (&history.board, &history.timer);
     match random.below(100) {
-        0..56 => damaged(history, random),
-        56..64 => conversion(history.board, random),
-        64..85 => Case { request: wild(random), board },
-        85..92 => wrong_length(history, random),
-        92..96 => Case { request: Request { kind: 20 + random.below(236) as u8, ..wild(random) }, board },
-        96..98 => Case { request: Request { kind: FRESH, ..wild(random) }, board },
-        _ => Case { request: Request { kind: CHECK, ..wild(random) }, board },
+        0..46 => damaged(history, random),
+        46..64 => damaged_timer(history, random),
+        64..71 => conversion(history.board, random),
+        71..86 => Case::new(wild(random), board, timer),
+        86..93 => wrong_length(history, random),
+        93..96 => Case::new(Request { kind: 20 + random.below(236) as u8, ..wild(random) }, board, timer),
+        96..98 => Case::new(Request { kind: FRESH, ..wild(random) }, board, timer),
+        _ => Case::new(Request { kind: CHECK, ..wild(random) }, board, timer),
     }
 }
 
@@ -49,9 +51,23 @@ fn damaged(history: &History, random: &mut Random) -> Case {
         7 => request.kind = FRESH,
         8 => request = wild(random),
         9..12 => return conversion(board, random),
+        12..15 => request = history.timer_request(random),
         _ => (),
     }
-    Case { request, board: board.to_vec() }
+    Case::new(request, &board, &history.timer)
+}
+
+/// A start or a tick with more messages on the timer and a fault in its buffer, at times in the board too.
+fn damaged_timer(history: &History, random: &mut Random) -> Case {
+    let (mut board, mut timer) = (history.board, history.timer);
+    for _ in 0..random.pick(&[0, 1, 4, 16]) {
+        put_on_timer(&mut board, &mut timer, random);
+    }
+    let lent = if random.chance(80) { damage_timer(timer, &board, random) } else { timer.to_vec() };
+    if random.chance(15) {
+        damage(&mut board, random);
+    }
+    Case::new(history.timer_request(random), &board, &lent)
 }
 
 /// The board as it was saved once, with byte 1 zero; at times as it is.
@@ -59,7 +75,7 @@ fn conversion(mut board: Board, random: &mut Random) -> Case {
     if random.chance(90) {
         board[RUNNING] = 0;
     }
-    Case { request: Request { kind: CONVERT, ..wild(random) }, board: board.to_vec() }
+    Case::new(Request { kind: CONVERT, ..wild(random) }, &board, &[])
 }
 
 /// A board cut short or with bytes behind it. Most are near the right length: the longest one costs as much as forty others.
@@ -73,6 +89,10 @@ fn wrong_length(history: &History, random: &mut Random) -> Case {
     };
     let mut board = history.board.to_vec();
     board.resize(len, random.byte());
-    let request = if random.chance(50) { history.request(random) } else { wild(random) };
-    Case { request, board }
+    let request = match random.below(6) {
+        0 => history.timer_request(random),
+        1..3 => wild(random),
+        _ => history.request(random),
+    };
+    Case::new(request, &board, &history.timer)
 }

@@ -2,8 +2,10 @@
 
 use super::history::task_where;
 use super::random::Random;
+use super::timer_damage::timed_record;
 use crate::board::{
-    set_word, word, Board, MsgNo, Status, TaskNo, BOARD_LEN, MESSAGES, MESSAGE_LEN, RUNNING, TASKS, TASK_LEN, TASK_QUEUE,
+    set_word, word, Board, MsgNo, Status, TaskNo, BOARD_LEN, MESSAGES, MESSAGE_LEN, ON_TIMER, RUNNING, TASKS, TASK_LEN,
+    TASK_QUEUE,
 };
 use crate::check::running;
 use crate::{step, Call};
@@ -16,7 +18,7 @@ pub fn damage(b: &mut Board, random: &mut Random) {
 }
 
 fn fault(b: &mut Board, random: &mut Random) {
-    match random.below(24) {
+    match random.below(25) {
         0 => b[random.below(BOARD_LEN)] = random.byte(),
         1 => b[random.upto(3) as usize] = random.byte(),
         2 | 3 => redirected_link(b, random),
@@ -98,10 +100,11 @@ fn changed_place(b: &mut Board, random: &mut Random) {
     let (present, in_use) = used(b);
     let k = random.pick(&present);
     let m = if random.chance(80) { random.pick(&in_use) } else { random.pick(&MsgNo::all().collect::<Vec<_>>()) };
-    b[m.place_at()] = match random.below(7) {
+    b[m.place_at()] = match random.below(8) {
         0 => 0,
         1 => random.byte(),
         2 => m.place(b) ^ random.pick(&[64, 128, 192]),
+        7 => ON_TIMER,
         3 | 4 => k.held_place(),
         _ => k.queued_place(),
     };
@@ -223,11 +226,12 @@ fn ready_equal(b: &Board, c: TaskNo) -> Option<TaskNo> {
 /// run.
 fn aimed(b: &mut Board, random: &mut Random) {
     let (Some(k), Some(m)) = (TaskNo::new(aim(TASKS, random)), MsgNo::new(aim(MESSAGES, random))) else { return };
-    match random.below(5) {
+    match random.below(7) {
         0 => bad_task(b, k, random),
         1 => bad_message(b, m, random),
         2 => bad_queue(b, k, random),
         3 => bad_state(b, k, random),
+        4 | 5 => bad_on_timer(b, m, random),
         _ => due_while_it_runs(b, k),
     }
 }
@@ -248,9 +252,23 @@ fn bad_task(b: &mut Board, k: TaskNo, random: &mut Random) {
 /// R4, wherever the message is.
 fn bad_message(b: &mut Board, m: MsgNo, random: &mut Random) {
     match random.below(3) {
-        0 => b[m.place_at()] = random.pick(&[33, 64, 97, 128, 255]),
+        0 => b[m.place_at()] = random.pick(&[33, 64, 97, 127, 129, 255]),
         1 => set_word(b, m.rptr_at(), TASKS + 1),
         _ => set_word(b, m.sptr_at(), TASKS + 1),
+    }
+}
+
+/// R4 on the timer, by one field or none.
+fn bad_on_timer(b: &mut Board, m: MsgNo, random: &mut Random) {
+    timed_record(b, m, random);
+    let (sptr, absent) = (word(b, m.sptr_at()), task_where(random, |k| !k.is_present(b)));
+    match random.below(8) {
+        0 => set_word(b, m.link_slot(), random.pick(&[1, 128, 256, 0x8000])),
+        1 => set_word(b, m.sptr_at(), absent),
+        2 => set_word(b, m.sptr_at(), random.pick(&[0, TASKS + 1, sptr + 256])),
+        3 => set_word(b, m.rptr_at(), random.pick(&[TASKS + 1, 256])),
+        4 => b[m.prio_at()] = random.pick(&[0xFE, 0xFF]),
+        _ => (),
     }
 }
 

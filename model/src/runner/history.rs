@@ -1,40 +1,48 @@
-//! Calls that fit a board, and a board that grows by them.
+//! Calls that fit a board, and a board that grows by them, with the timer buffer that goes with it.
 
-use super::case::{Request, KINDS};
+use super::case::{Request, KINDS, START, TICK};
 use super::random::Random;
 use crate::board::{word, Board, MsgNo, Status, TaskNo, BOARD_LEN, MESSAGES, SENDERS_PRIORITY, TASKS};
 use crate::check::running;
-use crate::step;
+use crate::timer::{set_now, Timer, TIMER_LEN};
 
-/// How often each of the nineteen kinds is tried.
-type Weights = [u8; 19];
+/// How often each of the nineteen kinds, start and tick are tried.
+type Weights = [u8; 21];
 
 const INSTALL: u8 = 1;
 const POST: u8 = 2;
 const FIND: u8 = 3;
 const CLAIM: u8 = 5;
+const PREPARE: u8 = 6;
 const SEND: u8 = 8;
 const SEND_AND_WAIT: u8 = 9;
 const RECEIVE: u8 = 16;
 const RECEIVE_AND_WAIT: u8 = 17;
 const CANCEL_MESSAGE: u8 = 18;
 
+/// Which of the kinds a history is made of: the nineteen, start and tick.
+const TRIED: std::ops::Range<usize> = 1..22;
+
 /// Names of tasks: few, so that some are alike, and alike in one byte only.
 const NAMES: [u16; 8] = [0x0000, 0x0001, 0x0002, 0x0100, 0x0101, 0x4154, 0x4155, 0xFFFF];
 
 /// A bit of everything.
-const MIXED: Weights = [5, 4, 2, 3, 10, 9, 3, 9, 3, 5, 2, 5, 2, 5, 2, 7, 3, 4, 2];
+const MIXED: Weights = [5, 4, 2, 3, 10, 9, 3, 9, 3, 5, 2, 5, 2, 5, 2, 7, 3, 4, 2, 5, 5];
 /// Messages are sent and nobody takes them.
-const FLOOD: Weights = [1, 1, 1, 0, 8, 8, 0, 40, 0, 2, 0, 4, 0, 2, 0, 1, 0, 1, 0];
+const FLOOD: Weights = [1, 1, 1, 0, 8, 8, 0, 40, 0, 2, 0, 4, 0, 2, 0, 1, 0, 1, 0, 1, 1];
 /// Tasks come and go.
-const CROWD: Weights = [40, 4, 4, 8, 6, 4, 2, 5, 2, 2, 1, 2, 1, 2, 1, 4, 2, 2, 1];
+const CROWD: Weights = [40, 4, 4, 8, 6, 4, 2, 5, 2, 2, 1, 2, 1, 2, 1, 4, 2, 2, 1, 3, 1];
 /// Tasks wait, are woken and find their message gone.
-const WAITS: Weights = [5, 9, 1, 3, 8, 4, 1, 10, 10, 2, 5, 2, 5, 2, 5, 3, 14, 12, 7];
+const WAITS: Weights = [5, 9, 1, 3, 8, 4, 1, 10, 10, 2, 5, 2, 5, 2, 5, 3, 14, 12, 7, 3, 3];
+/// Messages go on the timer and come back to tasks that wait.
+const TIMED: Weights = [4, 4, 1, 6, 12, 9, 1, 4, 2, 1, 1, 1, 1, 1, 1, 6, 10, 5, 3, 30, 14];
 
 /// A board that evolves by the model, and what its calls are like.
 pub struct History {
     /// The board as it stands.
     pub board: Board,
+    /// The timer buffer, lent to every start and tick.
+    pub timer: Timer,
     weights: Weights,
     /// How many tasks it first strives for.
     tasks: usize,
@@ -43,6 +51,8 @@ pub struct History {
     /// A task that gets more of the messages than others, and in how many of a hundred it is preferred.
     favourite: u16,
     preferred: usize,
+    /// Most delays are not beyond this.
+    long_delay: u16,
     calls_left: usize,
     calls_without_running: usize,
 }
@@ -50,14 +60,17 @@ pub struct History {
 impl History {
     /// A history from a fresh board.
     pub fn new(random: &mut Random) -> History {
-        let (weights, calls) = random.pick(&[(MIXED, 200), (FLOOD, 600), (CROWD, 120), (WAITS, 250)]);
+        let kinds = [(MIXED, 200), (FLOOD, 600), (CROWD, 120), (WAITS, 250), (TIMED, 300), (TIMED, 200)];
+        let (weights, calls) = random.pick(&kinds);
         History {
             board: [0; BOARD_LEN],
+            timer: fresh_timer(random),
             weights,
             tasks: random.pick(&[1, 2, 4, 8, 32]),
             priorities: random.pick(&[1, 2, 5, 20, 126]),
             favourite: random.upto(TASKS),
             preferred: random.pick(&[0, 60, 99]),
+            long_delay: random.pick(&[1, 3, 6, 6, 300]),
             calls_left: calls / 2 + random.below(calls),
             calls_without_running: 0,
         }
@@ -70,8 +83,8 @@ impl History {
 
     /// Makes the request on the board.
     pub fn advance(&mut self, request: &Request) {
-        if let Some(call) = request.call() {
-            step(&mut self.board, call);
+        if request.call().is_some() || request.takes_timer() {
+            request.make(&mut self.board, &mut self.timer);
         }
         self.calls_left -= 1;
         let runs = running(&self.board).is_some();
@@ -88,19 +101,47 @@ impl History {
             6..13 => match (request.kind, random.below(6)) {
                 (INSTALL, 0..2) => request.stat = any.stat,
                 (INSTALL, 2..5) => request.prio = any.prio,
-                (6 | 8 | 9 | 12 | 13 | CANCEL_MESSAGE, 0..4) => request.b = any.b,
+                (6 | 8 | 9 | 12 | 13 | CANCEL_MESSAGE | START, 0..4) => request.b = any.b,
                 _ => request.a = any.a,
             },
+            13..17 => return self.of_timed(request, random),
             _ => (),
         }
         request
     }
 
+    /// The same of a message on the timer, where a message is what is asked for; cancel message at the task that it goes to.
+    fn of_timed(&self, request: Request, random: &mut Random) -> Request {
+        let b = &self.board;
+        let a = message_where(random, |m| m.is_on_timer(b));
+        let sptr = MsgNo::new(a).map_or(0, |m| word(b, m.sptr_at()));
+        match request.kind {
+            CANCEL_MESSAGE => Request { a, b: sptr, ..request },
+            6..=15 | START => Request { a, ..request },
+            _ => request,
+        }
+    }
+
+    /// A start or a tick, mostly one that fits the board.
+    pub fn timer_request(&self, random: &mut Random) -> Request {
+        let kind = random.pick(&[START, TICK]);
+        let fitting = self.fitting_of(kind, random);
+        if random.chance(85) {
+            fitting
+        } else {
+            Request { kind, ..wild(random) }
+        }
+    }
+
     /// A request with arguments that the board can accept, as far as there are any.
     fn fitting(&self, random: &mut Random) -> Request {
+        let kind = self.kind(running(&self.board), random);
+        self.fitting_of(kind, random)
+    }
+
+    fn fitting_of(&self, kind: u8, random: &mut Random) -> Request {
         let b = &self.board;
         let c = running(b);
-        let kind = self.kind(c, random);
         // What a kind does not take is ignored, so it may be anything.
         let any = Request { kind, ..wild(random) };
         let held = self.held_message(kind, c, random);
@@ -114,51 +155,53 @@ impl History {
             },
             2 | 4 => Request { a: self.task_to_act_on(kind, random), ..any },
             3 => Request { a: random.pick(&NAMES), ..any },
-            6 => Request { a: held, b: self.sender(random), prio: self.message_prio(random), ..any },
+            PREPARE => Request { a: held, b: self.sender(random), prio: self.message_prio(random), ..any },
             7 | 10 | 11 | 14 | 15 => Request { a: held, ..any },
             8 | 9 | 12 | 13 => Request { a: held, b: self.receiver(random), ..any },
             CANCEL_MESSAGE => self.queued_message(c, random, any),
+            START => Request { a: held, b: self.delay(random), ..any },
             _ => any,
         }
     }
 
     fn kind(&self, c: Option<TaskNo>, random: &mut Random) -> u8 {
         let Some(c) = c else {
-            let any = random.upto(19) as u8;
-            return random.pick(&[INSTALL, INSTALL, POST, POST, POST, FIND, any]);
+            let any = random.pick(&KINDS[TRIED]).0;
+            return random.pick(&[INSTALL, INSTALL, POST, POST, POST, FIND, TICK, TICK, any]);
         };
         let b = &self.board;
         let present = TaskNo::all().filter(|k| k.is_present(b)).count();
         if present < self.tasks && random.chance(30) {
             return INSTALL;
         }
-        let kind = 1 + random.weighted(&self.weights) as u8;
+        let kind = KINDS[TRIED][random.weighted(&self.weights)].0;
         if random.chance(5) {
             return kind;
         }
         self.possible(kind, c)
     }
 
-    /// The kind, or the one that first makes it possible: a message to cancel, resend or return was sent before, a message to
-    /// send is held, a message to hold is free.
+    /// The kind, or the one that first makes it possible: a message to cancel, resend or return was sent before, one to start
+    /// names its sender, a message to send is held, a message to hold is free.
     fn possible(&self, kind: u8, c: TaskNo) -> u8 {
         let b = &self.board;
         let holds = MsgNo::all().any(|m| m.place(b) == c.held_place());
         let leads = MsgNo::all().any(|m| m.place(b) == c.held_place() && self.leads(kind, m));
         let has_free = MsgNo::all().any(|m| m.place(b) == 0);
-        let awaits = MsgNo::all().any(|m| m.place(b) > 64 && word(b, m.sptr_at()) == c.number());
+        let awaits = MsgNo::all().any(|m| m.queued_at(b).is_some() && word(b, m.sptr_at()) == c.number());
         match kind {
             CANCEL_MESSAGE if !awaits => self.possible(SEND, c),
-            6..=15 if !holds && has_free => CLAIM,
-            6..=15 if !holds && word(b, c.queue_slot()) == 0 => RECEIVE_AND_WAIT,
-            6..=15 if !holds => RECEIVE,
+            6..=15 | START if !holds && has_free => CLAIM,
+            6..=15 | START if !holds && word(b, c.queue_slot()) == 0 => RECEIVE_AND_WAIT,
+            6..=15 | START if !holds => RECEIVE,
             10 | 14 if !leads => SEND,
             11 | 15 if !leads => SEND_AND_WAIT,
+            START if !leads => PREPARE,
             _ => kind,
         }
     }
 
-    /// Whether resend or return of the message finds a present task.
+    /// Whether resend, return or start of the message finds a present task.
     fn leads(&self, kind: u8, m: MsgNo) -> bool {
         let pointer = if kind < 14 { m.rptr_at() } else { m.sptr_at() };
         TaskNo::new(word(&self.board, pointer)).is_some_and(|k| k.is_present(&self.board))
@@ -173,14 +216,23 @@ impl History {
         (priority << 1) + random.below(2) as u8
     }
 
-    /// A message that c holds, for resend and return one that leads to a present task.
+    /// How many ticks a message is to be on the timer; at times any word, and no ticks.
+    fn delay(&self, random: &mut Random) -> u16 {
+        match random.below(30) {
+            0 => 0,
+            1 => random.word(),
+            _ => random.upto(self.long_delay),
+        }
+    }
+
+    /// A message that c holds, for resend, return and start one that leads to a present task.
     fn held_message(&self, kind: u8, c: Option<TaskNo>, random: &mut Random) -> u16 {
         let place = c.map_or(0, TaskNo::held_place);
-        let must_lead = matches!(kind, 10 | 11 | 14 | 15) && random.chance(95);
+        let must_lead = matches!(kind, 10 | 11 | 14 | 15 | START) && random.chance(95);
         message_where(random, |m| m.place(&self.board) == place && (!must_lead || self.leads(kind, m)))
     }
 
-    /// A task to post to, rather one that waits for it; or one to cancel, rather one that can be cancelled.
+    /// A task to post to, rather one that waits for it; or one to cancel, rather one that can be cancelled but for the timer.
     fn task_to_act_on(&self, kind: u8, random: &mut Random) -> u16 {
         let b = &self.board;
         let waits = |k: TaskNo| k.status(b).has(Status::IWAT);
@@ -208,8 +260,8 @@ impl History {
 
     fn sender(&self, random: &mut Random) -> u16 {
         match random.below(20) {
-            0..12 => 0,
-            12..18 => task_where(random, |k| k.is_present(&self.board)),
+            0..9 => 0,
+            9..18 => task_where(random, |k| k.is_present(&self.board)),
             18 => random.upto(TASKS),
             _ => random.word(),
         }
@@ -222,12 +274,21 @@ impl History {
         let sender = c.map_or(0, TaskNo::number);
         let fits = |m: MsgNo| {
             let alone = MsgNo::all().filter(|other| other.place(b) == m.place(b)).count() == 1;
-            m.place(b) > 64 && (word(b, m.sptr_at()) == sender) == own && (!only || alone)
+            m.queued_at(b).is_some() && (word(b, m.sptr_at()) == sender) == own && (!only || alone)
         };
         let a = message_where(random, fits);
         let place = MsgNo::new(a).map_or(0, |m| m.place(b));
         Request { a, b: (place & 63).into(), ..any }
     }
+}
+
+/// The timer buffer of a new history: zero, but that now may be near the last tick, or anywhere.
+fn fresh_timer(random: &mut Random) -> Timer {
+    let mut timer = [0; TIMER_LEN];
+    let near_the_last = u16::MAX - random.below(6) as u16;
+    let any = random.word();
+    set_now(&mut timer, random.pick(&[0, near_the_last, near_the_last, any]));
+    timer
 }
 
 /// A request of any kind with any arguments.

@@ -55,7 +55,7 @@ fn compare(program: &Program, cases: &[Case]) -> Result<Tally, Fault> {
     let mut tally = Tally::default();
     for (number, (case, line)) in (1..).zip(cases.iter().zip(&lines)) {
         let reply = case.reply();
-        let expected = reply.line(&case.board);
+        let expected = reply.line(case);
         if expected != *line {
             return Err(disagreement(number, case, expected, line));
         }
@@ -112,10 +112,11 @@ fn disagreement(number: usize, case: &Case, expected: String, line: &str) -> Fau
     }
 }
 
-/// Whether a line has the protocol's form: six numbers, then place=value.
+/// Whether a line has the protocol's form: six numbers, then place=value, of the timer buffer tplace=value.
 fn is_answer(line: &str) -> bool {
     let is_number = |text: &str| text.parse::<u16>().is_ok();
-    let is_change = |text: &str| text.split_once('=').is_some_and(|(place, value)| is_number(place) && is_number(value));
+    let is_place = |text: &str| is_number(text.strip_prefix('t').unwrap_or(text));
+    let is_change = |text: &str| text.split_once('=').is_some_and(|(place, value)| is_place(place) && is_number(value));
     let parts: Vec<_> = line.split(' ').collect();
     let Some((numbers, changes)) = parts.split_at_checked(6) else { return false };
     numbers.iter().all(|part| is_number(part)) && changes.iter().all(|part| is_change(part))
@@ -139,7 +140,11 @@ impl fmt::Display for Trouble {
             }
             Fault::Differs { number, case, expected, actual } => {
                 let (asked, len) = (case.request.in_words(), case.board.len());
-                writeln!(f, "seed {seed}, case {number}: {asked}, on a board of {len} bytes")?;
+                write!(f, "seed {seed}, case {number}: {asked}, on a board of {len} bytes")?;
+                if case.request.takes_timer() {
+                    write!(f, " with a timer buffer of {}", case.timer.len())?;
+                }
+                writeln!(f)?;
                 write!(f, "expected  {expected}\nactual    {actual}")
             }
         }

@@ -2,13 +2,14 @@
 //! They test the differential run: it must notice every one.
 
 use super::case::{Case, Reply, CHECK, CONVERT};
+use super::timer_slips;
 use crate::board::{set_word, word, Board, MsgNo, Status, TaskNo, MESSAGES, MESSAGE_LEN, RUNNING};
 use crate::calls::{dispatch, effect, runs_next};
 use crate::check::{first_ready, queue_is_good, queued_messages, running, running_is_good, status_fits};
-use crate::check::{task_is_good, task_queue_is_good};
+use crate::check::{task_is_good, task_queue_is_good, timed_record_is_good};
 use crate::{check, convert, Answer, Refusal, Rule};
 
-/// The slips of document 01 that look right, slips in naming a broken rule, and slips in who runs.
+/// The slips of document 01 that look right, slips in naming a broken rule, slips in who runs, and slips of the timer.
 #[derive(Clone, Copy, Debug, PartialEq, Eq)]
 #[allow(missing_docs)]
 pub enum Slip {
@@ -29,10 +30,24 @@ pub enum Slip {
     DeliveryBeforeWhoRuns,
     EarlierEqualDueRefused,
     ConversionOverlooksByte1,
+    DueStopsAtTheLast,
+    PastIsDue,
+    FreeIsDueAt0,
+    LastEntryFirst,
+    DispatchAfterEach,
+    EntryStaysUsed,
+    StartedStaysHeld,
+    HighestTimerTaken,
+    NoneRunningBefore18,
+    MessageTwicePasses,
+    CancelOverlooksTimer,
+    TimedMayHaveLink,
+    TimedMayLackSptr,
+    TimedMayHaveFeh,
 }
 
 /// All slips by name.
-pub const SLIPS: [(&str, Slip); 17] = [
+pub const SLIPS: [(&str, Slip); 31] = [
     ("lifo-keeps-bit-0-clear", Slip::LifoKeepsBit0Clear),
     ("message-handed-when-sent", Slip::MessageHandedWhenSent),
     ("cancel-leaves-ready", Slip::CancelLeavesReady),
@@ -50,6 +65,20 @@ pub const SLIPS: [(&str, Slip); 17] = [
     ("delivery-before-who-runs", Slip::DeliveryBeforeWhoRuns),
     ("earlier-equal-due-refused", Slip::EarlierEqualDueRefused),
     ("conversion-overlooks-byte-1", Slip::ConversionOverlooksByte1),
+    ("due-stops-at-the-last", Slip::DueStopsAtTheLast),
+    ("past-is-due", Slip::PastIsDue),
+    ("free-is-due-at-0", Slip::FreeIsDueAt0),
+    ("last-entry-first", Slip::LastEntryFirst),
+    ("dispatch-after-each", Slip::DispatchAfterEach),
+    ("entry-stays-used", Slip::EntryStaysUsed),
+    ("started-stays-held", Slip::StartedStaysHeld),
+    ("highest-timer-taken", Slip::HighestTimerTaken),
+    ("none-running-before-18", Slip::NoneRunningBefore18),
+    ("message-twice-passes", Slip::MessageTwicePasses),
+    ("cancel-overlooks-timer", Slip::CancelOverlooksTimer),
+    ("timed-may-have-link", Slip::TimedMayHaveLink),
+    ("timed-may-lack-sptr", Slip::TimedMayLackSptr),
+    ("timed-may-have-feh", Slip::TimedMayHaveFeh),
 ];
 
 impl Slip {
@@ -60,7 +89,7 @@ impl Slip {
 
     /// The line that answers a case, with the slip.
     pub fn line(self, case: &Case) -> String {
-        let line = self.reply(case).line(&case.board);
+        let line = self.reply(case).line(case);
         // an answer cannot even say this one
         if self == Slip::RecordWithR3 && line == "2 0 0 0 3 0" {
             return format!("2 0 0 0 3 {}", case.board[0]);
@@ -71,6 +100,9 @@ impl Slip {
     fn reply(self, case: &Case) -> Reply {
         let mut reply = case.reply();
         let Ok(before) = <&Board>::try_from(&case.board[..]) else { return reply };
+        if let Some(slipped) = timer_slips::reply(self, case, &reply) {
+            return slipped;
+        }
         if self == Slip::SharedTailPasses && case.request.kind == CHECK {
             reply.answer = Some(check(&without_shared_tails(before)));
         } else if self == Slip::ConversionOverlooksByte1 && case.request.kind == CONVERT {
@@ -133,7 +165,7 @@ impl Slip {
             Slip::EarlierEqualDueRefused => refused_for_earlier(&mut b, before)?,
             _ => return None,
         };
-        Some(Reply { answer: Some(answer), after: b.to_vec() })
+        Some(Reply { answer: Some(answer), after: b.to_vec(), timer: Vec::new() })
     }
 }
 
@@ -166,8 +198,8 @@ fn converted_again(before: &Board) -> Reply {
     let mut b = *before;
     b[RUNNING] = 0;
     match convert(&mut b) {
-        Answer::Refused(refusal) => Reply { answer: Some(Answer::Refused(refusal)), after: before.to_vec() },
-        accepted => Reply { answer: Some(accepted), after: b.to_vec() },
+        Answer::Refused(refusal) => Reply { answer: Some(Answer::Refused(refusal)), after: before.to_vec(), timer: Vec::new() },
+        accepted => Reply { answer: Some(accepted), after: b.to_vec(), timer: Vec::new() },
     }
 }
 
@@ -192,7 +224,7 @@ fn queue_holds(b: &Board, k: TaskNo) -> bool {
 fn highest(b: &Board) -> Option<Rule> {
     let rule2 = || TaskNo::all().find(|k| !task_is_good(b, *k)).map(Rule::R2);
     let rule3 = || (!task_queue_is_good(b)).then_some(Rule::R3);
-    let rule4 = || queued_messages(b).err();
+    let rule4 = || queued_messages(b, timed_record_is_good).err();
     let rule5 = || TaskNo::all().find(|k| !queue_holds(b, *k)).map(Rule::R5);
     rule5().or_else(rule4).or_else(rule3).or_else(rule2)
 }
@@ -202,7 +234,9 @@ fn largest(b: &Board, rule: Rule) -> Option<Rule> {
     let last_task = |is_good: fn(&Board, TaskNo) -> bool| TaskNo::all().filter(|k| !is_good(b, *k)).last();
     match rule {
         Rule::R2(_) => last_task(task_is_good).map(Rule::R2),
-        Rule::R4(_) => MsgNo::all().filter(|m| queued_messages(&with_alone(b, *m)).is_err()).last().map(Rule::R4),
+        Rule::R4(_) => {
+            MsgNo::all().filter(|m| queued_messages(&with_alone(b, *m), timed_record_is_good).is_err()).last().map(Rule::R4)
+        }
         Rule::R5(_) => last_task(queue_holds).map(Rule::R5),
         Rule::R6(_) => last_task(status_fits).map(Rule::R6),
         Rule::R1 | Rule::R3 | Rule::R7(_) => None,

@@ -3,12 +3,15 @@
 use std::fmt;
 
 use super::case::{Case, Reply, CONVERT, FRESH, KINDS, NO_CALL};
-use crate::board::{Board, Status, TaskNo, MESSAGES, TASKS};
+use super::timers_seen::TimersSeen;
+use crate::board::{Board, MsgNo, Status, TaskNo, MESSAGES, TASKS};
 use crate::check::{first_ready, running};
 use crate::Rule;
 
-/// The highest refusal that a board can get: number 15 needs a board that passes and yet has MHBS over an empty queue.
-const LAST_REFUSAL: usize = 14;
+/// The highest refusal.
+const LAST_REFUSAL: usize = 18;
+/// The refusal that no board can get: it needs one that passes and yet has MHBS over an empty queue.
+const NEVER_GIVEN: usize = 15;
 
 /// Where a rule can be named. One without records is named at the first of these, and only R7 at what is no record.
 const SPOTS: [&str; 5] = ["its first record", "a record between", "its last record", "byte 1 of 0", "byte 1 beyond the tasks"];
@@ -31,6 +34,7 @@ pub struct Tally {
     earlier_due: usize,
     longest_queue: usize,
     most_tasks: usize,
+    timers: TimersSeen,
 }
 
 impl Default for Tally {
@@ -47,6 +51,7 @@ impl Default for Tally {
             earlier_due: 0,
             longest_queue: 0,
             most_tasks: 0,
+            timers: TimersSeen::default(),
         }
     }
 }
@@ -67,14 +72,14 @@ impl Tally {
         if refusal == 0 {
             self.measure(&reply.after);
         }
+        self.timers.count(case, reply);
     }
 
     /// How far a board that a call has left is from empty.
     fn measure(&mut self, after: &[u8]) {
         let Ok(b) = <&Board>::try_from(after) else { return };
         let mut queued = [0; TASKS as usize + 1];
-        let places = after[crate::board::PLACES_AT..].iter();
-        places.filter(|place| **place > 64).for_each(|place| queued[usize::from(place - 64)] += 1);
+        MsgNo::all().filter_map(|m| m.queued_at(b)).for_each(|k| queued[usize::from(k.number())] += 1);
         self.longest_queue = queued.into_iter().fold(self.longest_queue, usize::max);
         self.most_tasks = self.most_tasks.max(TaskNo::all().filter(|k| k.is_present(b)).count());
         let earlier = first_ready(b).filter(|first| running(b) != Some(*first));
@@ -96,6 +101,7 @@ impl Tally {
         self.earlier_due += other.earlier_due;
         self.longest_queue = self.longest_queue.max(other.longest_queue);
         self.most_tasks = self.most_tasks.max(other.most_tasks);
+        self.timers.add(&other.timers);
     }
 
     /// What should have been seen and was not.
@@ -105,11 +111,11 @@ impl Tally {
         let calls = kinds().filter(|(kind, _)| unseen(&self.accepted, kind)).map(|(_, name)| format!("{name} accepted"));
         let judges = kinds().filter(|(kind, _)| *kind != usize::from(FRESH));
         let broken = judges.filter(|(kind, _)| unseen(&self.broken, kind)).map(|(_, name)| format!("{name} of a broken board"));
-        let numbers = (1..=LAST_REFUSAL).chain([NO_CALL.into()]);
-        let refusals = numbers.filter(|number| unseen(&self.refusals, number)).map(|number| format!("refusal {number}"));
+        let refusals = numbers().filter(|number| unseen(&self.refusals, number)).map(|number| format!("refusal {number}"));
         let old = (1..=7).filter(|rule| unseen(&self.old_rules, rule)).map(|rule| format!("R{rule} of an old board"));
         let spots = (1..=7).flat_map(|rule| self.missing_spots(rule));
-        calls.chain(broken).chain(refusals).chain(old).chain(spots).chain(self.missing_equals()).collect()
+        let boards = calls.chain(broken).chain(refusals).chain(old).chain(spots).chain(self.missing_equals());
+        boards.chain(self.timers.missing()).collect()
     }
 
     fn missing_equals(&self) -> impl Iterator<Item = String> {
@@ -124,6 +130,11 @@ impl Tally {
         let counts = self.rules[rule].iter().take(spots(rule)).zip(SPOTS);
         counts.filter(|(count, _)| **count == 0).map(move |(_, spot)| format!("R{rule} at {spot}"))
     }
+}
+
+/// The numbers that can be given for a refusal.
+fn numbers() -> impl Iterator<Item = usize> {
+    (1..=LAST_REFUSAL).filter(|number| *number != NEVER_GIVEN).chain([NO_CALL.into()])
 }
 
 /// How many of the spots a rule has.
@@ -154,8 +165,7 @@ impl fmt::Display for Tally {
             let [accepted, refused, broken] = [self.accepted, self.refused, self.broken].map(|counts| counts[usize::from(kind)]);
             writeln!(f, "{kind:>3} {name:<17} {accepted:>9} {refused:>9} {broken:>9}")?;
         }
-        let numbers = (1..=LAST_REFUSAL).chain([NO_CALL.into()]);
-        let refusals: Vec<_> = numbers.map(|number| format!("{number}: {}", self.refusals[number])).collect();
+        let refusals: Vec<_> = numbers().map(|number| format!("{number}: {}", self.refusals[number])).collect();
         writeln!(f, "refusals  {}", refusals.join("  "))?;
         let at_spots = |rule: usize| self.rules[rule][..spots(rule)].iter().map(usize::to_string).collect::<Vec<_>>().join(" ");
         let rules: Vec<_> = (1..=7).map(|rule| format!("R{rule}: {}", at_spots(rule))).collect();
@@ -164,6 +174,7 @@ impl fmt::Display for Tally {
         writeln!(f, "of old    {}", old.join("  "))?;
         writeln!(f, "equals    an earlier one ready {}, and due a message {}", self.later_runs, self.earlier_due)?;
         writeln!(f, "most      {} tasks, {} messages in a queue", self.most_tasks, self.longest_queue)?;
+        writeln!(f, "{}", self.timers)?;
         write!(f, "cases     {}", self.cases)
     }
 }
