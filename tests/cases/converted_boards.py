@@ -1,15 +1,15 @@
 #!/usr/bin/env python3
 """Makes conversions of old boards, saved when byte 1 was zero and the first ready task in queue order ran: those that passed the
 check of then, and what it refused, with its R1 (bytes 1 to 3) and its R7 (that task has MHBS 0). Written from documents 01 and 02
-(Asks 1 and 3) alone; the boards and the reading of R2 to R6 are those of damaged_boards.py.
+(Asks 1, 3 and 5) alone; the boards and the reading of R2 to R6 are those of damaged_boards.py.
 usage: converted_boards.py CASES ANSWERS   (a case: length word, call of 9 bytes, board; an answer: a line of refusal, value,
 running, delivered, rule, record and each byte that changed)"""
 import random
 import sys
 
 from damaged_boards import (IWAT, MHBS, TCBB, WAIT, broken_records, changed, damages, damages_of_no_record, each_at_its_spots,
-                            equals, full, one_queue, ready, sound, spots)
-from layout import CONVERT, RUNNING, TASKS, task
+                            equals, full, of_the_timer, one_queue, ready, sound, spots)
+from layout import CONVERT, ON_TIMER, RUNNING, TASKS, place, task
 
 
 def old(b):
@@ -18,7 +18,7 @@ def old(b):
 
 def broken(b):
     """What an old board breaks, as (rule, record), record 0 for R1 and R3."""
-    out = broken_records(b) | ({(1, 0)} if any(b[1:4]) else set())
+    out = broken_records(b, has_timer=False) | ({(1, 0)} if any(b[1:4]) else set())
     first = ready(b)[:1] if not out else []
     return out | {(7, k) for k in first if b[task(k)] & MHBS}
 
@@ -51,6 +51,8 @@ def cases():
             yield changed(sound(), changes), (1, 0)
     yield from ((old(b), named) for b, named in each_at_its_spots() if named[0] in range(2, 7))
     yield from due_boards()
+    for b, _ in of_the_timer():                             # there was no such place
+        yield old(b), (4, 1 + b[place(1):].index(ON_TIMER))
     rng = random.Random(1981)
     for _ in range(300):                                    # any byte of a sound board changed
         b = old(rng.choice((sound, full, one_queue, lambda: equals(1)))())

@@ -2,14 +2,14 @@
 """Makes the damaged boards of the gate: every rule R1 to R7 broken alone in each way it can be, at the first, a middle and the
 last record, then boards that break several.
 
-Written from documents 01 and 02 (Asks 1 and 3) alone, with its own reading of the rules, so that the proved check is compared
+Written from documents 01 and 02 (Asks 1, 3 and 5) alone, with its own reading of the rules, so that the proved check is compared
 with something else.
 usage: damaged_boards.py CASES ANSWERS   (a case: length word, call of 9 bytes, board; an answer: a line of refusal, value,
 running, delivered, rule, record and each byte that changed)"""
 import random
 import sys
 
-from layout import CHECK, FRESH, MESSAGES, RUNNING, TASKS, message, place, task
+from layout import CHECK, FRESH, MESSAGES, ON_TIMER, RUNNING, TASKS, message, place, task
 
 CALLS, NO_CALLS = range(1, 20), (20, 21, 22, 64, 128, 252, 255)
 WAIT, IWAT, BIT5, INTQ, DEBUG, MROB, MHBS, TCBB = 128, 64, 32, 16, 8, 4, 2, 1
@@ -44,8 +44,9 @@ def in_order(b):
     return walk(b, b[0], lambda k: task(k) + 2, present(b), lambda k: b[task(k) + 1] >> 1)
 
 
-def broken_records(b):
-    """What the board breaks of R2 to R6, as (rule, record), record 0 for R3; R6 is judged where R2 to R5 hold."""
+def broken_records(b, has_timer=True):
+    """What the board breaks of R2 to R6, as (rule, record), record 0 for R3; R6 is judged where R2 to R5 hold. Once there was no
+    timer, and its place was like any that names no task."""
     out = set()
     stat = {k: b[task(k)] for k in range(1, TASKS + 1)}
     there = present(b)
@@ -59,6 +60,10 @@ def broken_records(b):
         r, p = b[message(m):message(m) + 8], b[place(m)]
         if p == 0:
             if any(r):
+                out.add((4, m))
+            continue
+        if p == ON_TIMER and has_timer:
+            if word(r, 2) or word(r, 4) > TASKS or word(r, 6) not in there or r[1] >= 0xFE:
                 out.add((4, m))
             continue
         holder = p if p <= TASKS else p - 64
@@ -186,6 +191,11 @@ def to_word(i, w):
     return [(i, w % 256), (i + 1, w // 256)]
 
 
+def on_timer(m, sptr, prio=0x14, rptr=0):
+    """The changes that put a free message on the timer."""
+    return [(place(m), ON_TIMER), (message(m) + 1, prio), *to_word(message(m) + 4, rptr), *to_word(message(m) + 6, sptr)]
+
+
 def damages_of_no_record():
     """What breaks R1, R3, or R7 by a byte 1 that is no task, of the board sound() alone: (rule, record, [(offset, byte) ..])."""
     for i in (2, 3):
@@ -224,8 +234,14 @@ def damages(t=same, m=same):
         yield 4, held, to_word(message(held) + 2, v)
     for p in (0xFF, 0xFC, 0x00):                            # a queued message's PRIO
         yield 4, last, [(message(last) + 1, p)]
-    for p in (1, 31, 33, 48, 64, 97, 120, 127, 128, 192, 255):  # places that name no present task
+    for p in (1, 31, 33, 48, 64, 97, 120, 127, 129, 192, 255):  # places that name no present task
         yield 4, kept, [(place(kept), p)]
+    timed = on_timer(free, runner)                          # on the timer: LINK, RPTR, SPTR and PRIO
+    for field, v in ((2, 1), (2, 0x0100), (4, 33), (4, 0x0100), (6, 0), (6, absent), (6, 33), (6, 0x0100 + runner)):
+        yield 4, free, timed + to_word(message(free) + field, v)
+    for p in (0xFE, 0xFF):
+        yield 4, free, timed + [(message(free) + 1, p)]
+    yield 4, kept, [(place(kept), ON_TIMER)]                # its SPTR is absent
     for v in (0, 1, 128, 2, 10, 50, 129, 0x0103, 0x8000):   # MPTR of the running task
         yield 5, runner, to_word(task(runner) + 4, v)
     yield 5, waiter, to_word(task(waiter) + 4, 10)          # a queue that has only a held message
@@ -300,6 +316,20 @@ def of_equals():
         yield equals(byte, asleep=everyone), ((7, byte) if byte else (0, 0))
 
 
+def of_the_timer():
+    """Boards with messages on the timer: any RPTR and any PRIO below FEH, and a present SPTR, whether it is ready or not."""
+    for m in (4, 50, 126):
+        for prio in (0x00, 0x01, 0x14, 0xFC, 0xFD):
+            for rptr, sptr in ((0, 5), (5, 2), (32, 7), (31, 32)):
+                yield changed(sound(), on_timer(m, sptr, prio, rptr)), (0, 0)
+    everyone = [on_timer(m, 1 + m % TASKS) for m in range(1, MESSAGES + 1)]
+    none_queued = [change for k in range(1, TASKS + 1) for change in to_word(task(k) + 4, 0)]
+    no_links = [change for m in range(1, MESSAGES + 1) for change in to_word(message(m) + 2, 0)]
+    yield changed(full(), none_queued + no_links + sum(everyone, [])), (0, 0)
+    yield changed(full(), everyone[0]), (4, 1)              # it has a LINK still
+    yield changed(full(), everyone[127]), (5, 32)           # the last of a queue has none, but is visited still
+
+
 def cases():
     """Every board of the gate, with the rule and the record to be named, zeros for none, and None where it may be any."""
     yield bytearray(1476), (0, 0)
@@ -311,6 +341,7 @@ def cases():
     yield from each_at_its_spots()
     yield from of_the_full_board()
     yield from of_equals()
+    yield from of_the_timer()
     for byte in (1, 32, 33, 255):
         yield changed(bytearray(1476), [(RUNNING, byte)]), (7, byte)    # there is no task
     long_walk = one_queue()                                 # 129 links: the last one turns back to the first

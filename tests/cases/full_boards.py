@@ -1,19 +1,20 @@
 #!/usr/bin/env python3
 """Makes claims on full and nearly full boards: none free, each message by itself the only free one, and whatever of a group of
 four can be free, in the first group, one in the middle and the last. What is not free is held by one task, held by all in turn,
-queued at all in turn, or held and queued by turns; each way another of the tasks runs, which are equals. Written from documents
-01 and 02 (Asks 2 and 3) alone.
+queued at all in turn, held and queued by turns, on the timer, or on the timer and queued by turns; each way another of the tasks
+runs, which are equals. Written from documents 01 and 02 (Asks 2, 3 and 5) alone.
 usage: full_boards.py CASES ANSWERS   (a case: length word, call of 9 bytes, board; an answer: a line of refusal, value,
 running, delivered, rule, record and each byte that changed)"""
 import struct
 import sys
 
-from layout import MESSAGES, RUNNING, TASKS, message, place, task
+from layout import MESSAGES, ON_TIMER, RUNNING, TASKS, message, place, task
 
 CLAIM = 5
-# the running task, and whether message m is queued, and the task that has it
-WAYS = [(1, lambda m: (False, 1)), (32, lambda m: (False, 1 + m % TASKS)), (16, lambda m: (True, 1 + m % TASKS)),
-        (2, lambda m: (m % 3 > 0, 1 + m // 7 % TASKS))]
+# the running task, and the place of message m
+WAYS = [(1, lambda m: 1), (32, lambda m: 1 + m % TASKS), (16, lambda m: 65 + m % TASKS),
+        (2, lambda m: (65 if m % 3 else 1) + m // 7 % TASKS), (17, lambda m: ON_TIMER),
+        (31, lambda m: ON_TIMER if m % 2 else 65 + m % TASKS)]
 
 
 def board(running, way, free):
@@ -25,12 +26,10 @@ def board(running, way, free):
         b[task(k):task(k) + 3] = 0x01, 0x33, k + 1 if k < TASKS else 0
         ends[k] = task(k) + 4
     for m in sorted(set(range(1, MESSAGES + 1)) - free):
-        queued, k = way(m)
-        b[message(m) + 1] = 0x33
-        b[place(m)] = 64 + k if queued else k
-        if queued:
-            b[ends[k]] = m
-            ends[k] = message(m) + 2
+        b[message(m) + 1], b[message(m) + 6], b[place(m)] = 0x33, 1 + m % TASKS, way(m)
+        if 64 < way(m) < ON_TIMER:
+            b[ends[way(m) - 64]] = m
+            ends[way(m) - 64] = message(m) + 2
     return bytes(b)
 
 
