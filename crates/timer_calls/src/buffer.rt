@@ -1,0 +1,96 @@
+// Refusal 18: is this a timer buffer for the board? Each entry is looked at once. The messages on the timer are counted by their places
+// alone: where as many entries are used, each for another message that is there, they are exactly those.
+ghost use mathlib.Core.Path.{_≡_};
+ghost use Prim.Native.Nat.{_≤_};
+ghost use lib.ListN.{length};
+ghost use Rattle.board.specs.Board.{boardOf, total};
+ghost use Rattle.timer.specs.Timer.{timerOf};
+ghost use Rattle.timing.specs.Timing.{goodTimer};
+ghost use Rattle.timer_calls.specs.Buffer.{namedBefore, usedOf, timedOf};
+use board::numbers::Size;
+use board::places::Place;
+use lent::by_word::place_meant;
+use timer::bytes::entry_at;
+
+// How many entries are used, if each is good.
+pub enum Entries {
+    Used(u16),
+    Bad,
+}
+
+// How many messages are placed on the timer.
+fn count_timed(z: Size, l: &[u8]) -> u16
+    requires { ⌜ total z ≤ length (now l) ⌝ }
+    ensures { λ res. ⌜ res ≡ timedOf z (boardOf z (now (l .entry))) ⌝ }
+{
+    let most = z.messages;
+    let mut m: u16 = 0;
+    let mut n: u16 = 0;
+    while m < most {
+        m += 1;
+        let p = place_meant(z, l, m);
+        if p.is_on_timer() {
+            n += 1;
+        }
+    }
+    n
+}
+
+// An entry before entry i names the message m.
+fn named_before(s: &[u8], i: u16, m: u8) -> bool
+    requires { ⌜ 50 ≤ length (now s) ⌝ }
+    ensures { λ res. ⌜ res ≡ namedBefore (timerOf (now (s .entry))) i m ⌝ }
+{
+    let mut j: u16 = 1;
+    while j < i {
+        let e = entry_at(s, j);
+        if e.message == m {
+            return true;
+        }
+        j += 1;
+    }
+    false
+}
+
+// Each used entry names a message that is on the timer and that no entry before it names, and each free one is zero.
+fn count_used(z: Size, l: &[u8], s: &[u8]) -> Entries
+    requires { ⌜ (total z ≤ length (now l)) × (50 ≤ length (now s)) ⌝ }
+    ensures { λ res. ⌜ res ≡ usedOf (boardOf z (now (l .entry))) (timerOf (now (s .entry))) ⌝ }
+{
+    let mut i: u16 = 0;
+    let mut n: u16 = 0;
+    while i < 16 {
+        i += 1;
+        let e = entry_at(s, i);
+        if e.used() {
+            let p = place_meant(z, l, e.message as u16);
+            if !p.is_on_timer() {
+                return Entries::Bad;
+            }
+            if named_before(s, i, e.message) {
+                return Entries::Bad;
+            }
+            n += 1;
+        } else {
+            if e.due != 0 {
+                return Entries::Bad;
+            }
+        }
+    }
+    Entries::Used(n)
+}
+
+// The buffer s is one for the board l.
+pub fn good_timer(z: Size, l: &[u8], s: &[u8]) -> bool
+    requires { ⌜ total z ≤ length (now l) ⌝ }
+    ensures { λ res. ⌜ res ≡ goodTimer (boardOf z (now (l .entry))) (now (s .entry)) ⌝ }
+{
+    if s.len() != 50 {
+        return false;
+    }
+    let entries = count_used(z, l, s);
+    let Entries::Used(n) = entries else {
+        return false;
+    };
+    n == count_timed(z, l)
+}
