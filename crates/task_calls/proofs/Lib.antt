@@ -1,4 +1,5 @@
 mod Naming
 mod Holding
+mod Awaiting
 mod Installing
 mod Cancelling

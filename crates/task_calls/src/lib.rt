@@ -6,7 +6,7 @@ ghost use lib.ListN.{length};
 ghost use Rattle.board.specs.Numbers.{numberOfTask};
 ghost use Rattle.board.specs.Board.{boardOf, total};
 ghost use Rattle.paper.specs.declared.call.Call.the-variants as calls;
-ghost use Rattle.paper.specs.Refusals.{holdsOne, no9};
+ghost use Rattle.paper.specs.Refusals.{holdsOne, isAwaited, no9};
 ghost use Rattle.stores.specs.Effects.{find};
 ghost use Rattle.stores.specs.Answers.{Runs, Makes};
 ghost use Rattle.stores.specs.Calls.{stepping};
@@ -16,6 +16,7 @@ use board::numbers::TaskNo;
 use board::records::Task;
 use board::status::Status;
 use inner::refusals::present_task;
+use lent::by_word::message_meant;
 use lent::by_word::place_meant;
 use lent::bytes::first_task;
 use lent::bytes::put_task;
@@ -131,6 +132,26 @@ fn holds_one(z: Size, l: &[u8], k: TaskNo) -> bool
     false
 }
 
+// True if task k is SPTR of a message on the timer.
+fn is_awaited(z: Size, l: &[u8], k: TaskNo) -> bool
+    requires { ⌜ total z ≤ length (now l) ⌝ }
+    ensures { λ res. ⌜ res ≡ isAwaited z (boardOf z (now (l .entry))) (k .0) ⌝ }
+{
+    let most = z.messages;
+    let mut m: u16 = 0;
+    while m < most {
+        m += 1;
+        let p = place_meant(z, l, m);
+        if p.is_on_timer() {
+            let u = message_meant(z, l, m);
+            if u.sptr == k.number() {
+                return true;
+            }
+        }
+    }
+    false
+}
+
 pub fn cancel_task(z: Size, l: &mut [u8], c: TaskMeant, k: u16) -> Body
     requires { ⌜ Runs z (now l) c ⌝ }
     ensures { λ res. ⌜ Makes res (now (l .exit)) (stepping z (now (l .entry)) (calls.CancelTask k)) ⌝ }
@@ -151,6 +172,9 @@ pub fn cancel_task(z: Size, l: &mut [u8], c: TaskMeant, k: u16) -> Body
     }
     let s = t.stat;
     if s.has(Status::IWAT) {
+        return Body::Stopped(Refusal::TaskBusy);
+    }
+    if is_awaited(z, l, n) {
         return Body::Stopped(Refusal::TaskBusy);
     }
     out_of_order(z, l, n);

@@ -1,7 +1,8 @@
 -- `task_calls::cancel_task` meets its contract.
 use native.Mathlib.Omega.{arith}
 use denote.Ref.{now}
-use Rattle.task_calls.proofs.Cancelling.{cancel-nobody, cancel-no-task, cancel-queued, cancel-holds, cancel-waits, cancels}
+use Rattle.task_calls.proofs.Cancelling.{cancel-nobody, cancel-no-task, cancel-queued, cancel-holds}
+use Rattle.task_calls.proofs.Cancelling.{cancel-waits, cancel-awaited, cancels}
 use borrow.Author.Needs.{needs}
 use Rattle.task_calls.proofs.cancel_task.Statement.{statement}
 use Rattle.task_calls.proofs.cancel_task.Tie as tie
@@ -46,16 +47,35 @@ returns-5 c =
     (u .meant .given .1) (t .before .before .task-at .ensures) (t .if1 .left) (r .before .holds-one .ensures)
     (r .if2 .left) (c .before .has .ensures) (c .if3 .taken)
 
-put-task-requires : tie.Need-put-task-requires
-put-task-requires c κs =
-    let s = c .before .before .before .before .before .before .before .before .before .before .before .before in
-    omega
-    (arith, s .before .before .before .before .before .before .before .before .before .before .before .before .pre .0, c .before .before .before .l .given)
-
 returns-6 : tie.Need-returns-6
 returns-6 c =
+    let q = c .before .before .before in
+    let r = q .before .before .before in
+    let t = r .before .before .before in
+    let u = t .before .before .before .before .before in
+    let v = u .before .before .before .before .before .before .before in
+    cancel-awaited (v .args .z) (now (v .args .l)) (v .args .k) (v .pre .1)
+    (u .before .before .before .before .enum-told .given .1) (u .before .before .present-task .ensures)
+    (u .meant .given .1) (t .before .before .task-at .ensures) (t .if1 .left) (r .before .holds-one .ensures)
+    (r .if2 .left) (q .before .has .ensures) (q .if3 .left) (c .before .is-awaited .ensures) (c .if4 .taken)
+
+out-of-order-requires : tie.Need-out-of-order-requires
+out-of-order-requires c κs =
+    let s = c .before .before .before .before .before .before .before .before .before .before .before in
+    omega (arith, s .before .before .before .before .before .before .before .before .before .before .before .pre .0)
+
+put-task-requires : tie.Need-put-task-requires
+put-task-requires c κs =
     let r = c .before .before .before in
-    let t = r .before .before .before .before .before .before in
+    let s = r .before .before .before .before .before .before .before .before .before .before .before .before in
+    let t = s .before .before .before .before .before .before .before .before .before .before .before .before in
+    omega (arith, t .pre .0, r .l .given)
+
+returns-7 : tie.Need-returns-7
+returns-7 c =
+    let r = c .before .before .before in
+    let q = r .before .before .before .before .before .before in
+    let t = q .before .before .before in
     let u = t .before .before .before in
     let v = u .before .before .before in
     let w = v .before .before .before .before .before in
@@ -63,8 +83,8 @@ returns-6 c =
     cancels (p .args .z) (now (p .args .l)) (p .args .k) (p .pre .1)
     (w .before .before .before .before .enum-told .given .1) (w .before .before .present-task .ensures)
     (w .meant .given .1) (v .before .before .task-at .ensures) (v .if1 .left) (u .before .holds-one .ensures)
-    (u .if2 .left) (t .before .has .ensures) (t .if3 .left) (r .before .before .before .before .out-of-order .ensures)
-    (r .none .ensures) (c .before .before .put-task .ensures)
+    (u .if2 .left) (t .before .has .ensures) (t .if3 .left) (q .before .is-awaited .ensures) (q .if4 .left)
+    (r .before .before .before .before .out-of-order .ensures) (r .none .ensures) (c .before .before .put-task .ensures)
 
 pub cancel-task-spec : {M : Type 1} → statement M
 cancel-task-spec =
@@ -72,4 +92,5 @@ cancel-task-spec =
     (tie.spec (λ c. search needs) (λ c. search needs) returns (λ c κs. search needs) (λ c. search needs)
     (λ c. search needs) (λ c. search needs) returns-2 (λ c κs. search needs) (λ c. search needs) returns-3
     (λ c κs. search needs) (λ c. search needs) returns-4 (λ c κs. search needs) (λ c. search needs) returns-5
-    (λ c κs. search needs) (λ c κs. search needs) put-task-requires (λ c. search needs) returns-6)
+    (λ c κs. search needs) (λ c. search needs) returns-6 out-of-order-requires (λ c κs. search needs) put-task-requires
+    (λ c. search needs) returns-7)
