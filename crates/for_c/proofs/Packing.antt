@@ -30,7 +30,7 @@ named-rule {r = r} e p n w h =
 
 -- any other: the code met a variant that is not RuleBroken, which is variant 1, counted from 0
 abbrev others : List ℕ
-others = 0 ∷ 2 ∷ 3 ∷ 4 ∷ 5 ∷ 6 ∷ 7 ∷ 8 ∷ 9 ∷ 10 ∷ 11 ∷ 12 ∷ 13 ∷ 14 ∷ []
+others = 0 ∷ 2 ∷ 3 ∷ 4 ∷ 5 ∷ 6 ∷ 7 ∷ 8 ∷ 9 ∷ 10 ∷ 11 ∷ 12 ∷ 13 ∷ 14 ∷ 15 ∷ 16 ∷ 17 ∷ []
 
 pub named-none : (q : Refusal) → OneOf others (tagOf the-type q) → (0 ≡ told q .rule + 256 * told q .recordNo) × (0 < 16777216)
 named-none q i = let (rule, recordNo) = others-told q other in (omega arith, lit< tt)

@@ -28,8 +28,8 @@ use Rattle.paper.proofs.Which.{nth-numbered}
 use Rattle.paper.proofs.Naming.{verdict-stays, lowest-is-named, rule-only-with-2}
 use Rattle.for_c.specs.Claims.{Words, RecordFits, PackedTells, NoAnswerIs255}
 
--- the number is 0 to 15
-number-small : (a : Answer) → handed a .number < 16
+-- the number is 0 to 18
+number-small : (a : Answer) → handed a .number < 19
 number-small (Accepted v c m) = lit< tt
 number-small (Refused q) = refusal-number q .1
 

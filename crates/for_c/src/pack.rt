@@ -28,6 +28,9 @@ pub fn refusal_number(q: Refusal) -> u8
         Refusal::NotItsSender => 13,
         Refusal::BadSender => 14,
         Refusal::NothingToDeliver => 15,
+        Refusal::NoDelay => 16,
+        Refusal::NoTimerFree => 17,
+        Refusal::BadTimer => 18,
     }
 }
 
