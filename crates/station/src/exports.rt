@@ -4,6 +4,7 @@ ghost use Rattle.board.specs.Numbers.{small};
 ghost use Rattle.paper.specs.Answers.{handed};
 ghost use Rattle.paper.specs.Outcomes.{Outcome, fresh, check};
 ghost use Rattle.paper.specs.Conversion.{convert};
+ghost use Rattle.timing.specs.Timing.{start, tick};
 ghost use Rattle.for_c.specs.Packed.{packed};
 ghost use Rattle.for_c.specs.Asked.{askedOf};
 ghost use Rattle.station.specs.Called.{wordFor, leftFor};
@@ -49,4 +50,18 @@ pub extern "C" fn station_call(
         return 255;
     };
     pack(crate::step(board, call))
+}
+
+#[no_mangle]
+pub extern "C" fn station_start(board: &mut [u8], timer: &mut [u8], m: u16, delay: u16) -> u64
+    ensures { λ res. ⌜ (res ≡ packed (handed (start small (now (board .entry)) (now (timer .entry)) m delay .answer))) × (now (board .exit) ≡ start small (now (board .entry)) (now (timer .entry)) m delay .board) × (now (timer .exit) ≡ start small (now (board .entry)) (now (timer .entry)) m delay .timer) ⌝ }
+{
+    pack(crate::start(board, timer, m, delay))
+}
+
+#[no_mangle]
+pub extern "C" fn station_tick(board: &mut [u8], timer: &mut [u8]) -> u64
+    ensures { λ res. ⌜ (res ≡ packed (handed (tick small (now (board .entry)) (now (timer .entry)) .answer))) × (now (board .exit) ≡ tick small (now (board .entry)) (now (timer .entry)) .board) × (now (timer .exit) ≡ tick small (now (board .entry)) (now (timer .entry)) .timer) ⌝ }
+{
+    pack(crate::tick(board, timer))
 }

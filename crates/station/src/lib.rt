@@ -1,6 +1,6 @@
-// PROMISE. The station's board for its callers: making a fresh board, checking one, converting a saved one, and the nineteen calls, on lent
-// bytes of any length and content. Read for the contracts: each says the answer and every byte afterwards by one definition (paper, Outcomes
-// and Conversion).
+// PROMISE. The station's board for its callers: making a fresh board, checking one, converting a saved one, the nineteen calls, and start and
+// tick with a timer buffer, on lent bytes of any length and content. Read for the contracts: each says the answer and every byte afterwards
+// by one definition (paper, Outcomes and Conversion; timing, Timing).
 pub mod exports;
 
 ghost use mathlib.Core.Path.{_≡_};
@@ -11,6 +11,7 @@ ghost use Prim.Native.Nat.{_≤_};
 ghost use Rattle.board.specs.Board.{total, boardOf};
 ghost use Rattle.paper.specs.Outcomes.{Ends, effect, fresh, check};
 ghost use Rattle.paper.specs.Conversion.{convert};
+ghost use Rattle.timing.specs.Timing.{EndsTimed, start, tick};
 ghost use Rattle.rules.specs.Checked.{checkedOf};
 use board::numbers::Size;
 use calls::make_call;
@@ -21,6 +22,9 @@ use paper::call::Call;
 use rules::Checked;
 use rules::Edition;
 use rules::check_rules;
+use timer_calls::buffer::good_timer;
+use timer_calls::start::make_start;
+use timer_calls::tick::make_tick;
 
 // The board is made all zeros, whatever it held: accepted with three zeros, or 1.
 pub fn fresh(l: &mut [u8]) -> Answer
@@ -92,6 +96,44 @@ pub fn step(l: &mut [u8], call: Call) -> Answer
     match checked {
         Checked::Broken(r) => Answer::Refused(Refusal::RuleBroken(r)),
         Checked::Passes(c) => make_call(Size::SMALL, l, c, call),
+    }
+}
+
+// A timer is started on message m: document 02's effect of it on the bytes of a board and of a timer buffer, whatever they are.
+pub fn start(l: &mut [u8], s: &mut [u8], m: u16, delay: u16) -> Answer
+    ensures { λ res. ⌜ EndsTimed res (now (l .exit)) (now (s .exit)) (start small (now (l .entry)) (now (s .entry)) m delay) ⌝ }
+{
+    if !sized(l) {
+        return Answer::Refused(Refusal::WrongLength);
+    }
+    let checked = checked_small(Edition::Today, l);
+    match checked {
+        Checked::Broken(r) => Answer::Refused(Refusal::RuleBroken(r)),
+        Checked::Passes(c) => {
+            if !good_timer(Size::SMALL, l, s) {
+                return Answer::Refused(Refusal::BadTimer);
+            }
+            make_start(Size::SMALL, l, s, c, m, delay)
+        }
+    }
+}
+
+// A tick, with the timer buffer that is lent to every start and tick.
+pub fn tick(l: &mut [u8], s: &mut [u8]) -> Answer
+    ensures { λ res. ⌜ EndsTimed res (now (l .exit)) (now (s .exit)) (tick small (now (l .entry)) (now (s .entry))) ⌝ }
+{
+    if !sized(l) {
+        return Answer::Refused(Refusal::WrongLength);
+    }
+    let checked = checked_small(Edition::Today, l);
+    match checked {
+        Checked::Broken(r) => Answer::Refused(Refusal::RuleBroken(r)),
+        Checked::Passes(c) => {
+            if !good_timer(Size::SMALL, l, s) {
+                return Answer::Refused(Refusal::BadTimer);
+            }
+            make_tick(Size::SMALL, l, s, c)
+        }
     }
 }
 
