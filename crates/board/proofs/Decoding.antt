@@ -5,15 +5,15 @@ use mathlib.Core.Logic.{_≢_}
 use mathlib.Core.Bool.{Bool, true, false, true≢false, _||_}
 use Prim.Native.Nat.{ℕ, _+_, _-_, _≤_, _<_}
 use native.Mathlib.Omega.{arith}
-use lib.Dec.{eqb, ltb}
-use borrow.Author.Tests.{eqb-true, eqb-false, eq-eqb, ltb-true}
+use lib.Dec.{eqb, leb, ltb}
+use borrow.Author.Tests.{eqb-true, eqb-false, eq-eqb, ltb-true, ltb-false, leb-true, leb-false}
 use Rattle.board.specs.declared.numbers.Size.{Size}
 use Rattle.board.specs.declared.numbers.TaskNo.{TaskNo}
 use Rattle.board.specs.declared.numbers.TaskMeant.the-variants.{Task, NoTask}
 use Rattle.board.specs.declared.places.Place.{Place}
 use Rattle.board.specs.declared.places.Place.the-variants.{Free, HeldBy, QueuedAt, OnTimer, Nowhere}
 use Rattle.board.specs.Numbers.{outside, taskNo, taskMeant}
-use Rattle.board.specs.Places.{placeOf, isQueuedAt}
+use Rattle.board.specs.Places.{placeOf, isQueuedAt, isOnTimer}
 use Rattle.board.proofs.Pieces.{outside-within, within-outside, outside-zero, outside-above}
 use Rattle.board.proofs.Meant.{taskMeant-task, taskMeant-none}
 use Rattle.board.proofs.Codec.{place-free, place-held, place-receiver, place-timer, place-nowhere}
@@ -86,3 +86,37 @@ module _ (z : Size) (k p : ℕ) where
 -- the code holds the task k as n
 pub says-number : (z : Size) (k n p : ℕ) (x : Bool) → n ≡ k → x ≡ isQueuedAt n (placeOf z p) → x ≡ isQueuedAt k (placeOf z p)
 says-number z k n p x e h = h ∙ ap (λ (j : ℕ). isQueuedAt j (placeOf z p)) e
+
+-- ---- the place byte p and the timer
+-- it says so only as 128, where that names no task
+says-timed : (z : Size) (p : ℕ) → p ≡ 128 → z .tasks < 64 → isOnTimer (placeOf z p) ≡ true
+says-timed z p e h =
+    ap isOnTimer (place-timer z p e (outside-above (z .tasks) p (omega arith)) (outside-above (z .tasks) (p - 64) (omega arith)))
+
+pub says-untimed : (z : Size) (p : ℕ) → (p ≡ 128 → z .tasks < 64 → ⊥) → isOnTimer (placeOf z p) ≡ false
+says-untimed z p never = go (eqb p 0) refl (outside (z .tasks) p) refl (outside (z .tasks) (p - 64)) refl (eqb p 128) refl
+  where
+    go : (s : Bool) → eqb p 0 ≡ s → (t : Bool) → outside (z .tasks) p ≡ t → (u : Bool) → outside (z .tasks) (p - 64) ≡ u
+        → (v : Bool) → eqb p 128 ≡ v → isOnTimer (placeOf z p) ≡ false
+    go true f t g u h v i = ap isOnTimer (place-free z p (eqb-true p 0 f))
+    go false f false g u h v i = let b = outside-within (z .tasks) p g in ap isOnTimer (place-held z p (b .0) (b .1))
+    go false f true g false h v i = ap isOnTimer (place-receiver z p (p - 64) (eqb-false p 0 f) g refl h)
+    go false f true g true h false i = ap isOnTimer (place-nowhere z p (eqb-false p 0 f) (eqb-false p 128 i) g h)
+    go false f true g true h true i = let e = eqb-true p 128 i in absurd (never e (few e))
+      where
+        few : p ≡ 128 → z .tasks < 64
+        few e = step (leb 64 (z .tasks)) refl
+          where
+            step : (t : Bool) → leb 64 (z .tasks) ≡ t → z .tasks < 64
+            step true l =
+                let w = leb-true 64 (z .tasks) l in
+                absurd (true≢false (sym h ∙ within-outside (z .tasks) (p - 64) (omega arith) (omega arith)))
+            step false l = leb-false 64 (z .tasks) l
+
+-- so of the byte 128 it is the number of tasks that tells
+pub says-below : (z : Size) (p : ℕ) → p ≡ 128 → ltb (z .tasks) 64 ≡ isOnTimer (placeOf z p)
+says-below z p e = go (ltb (z .tasks) 64) refl
+  where
+    go : (t : Bool) → ltb (z .tasks) 64 ≡ t → t ≡ isOnTimer (placeOf z p)
+    go true h = sym (says-timed z p e (ltb-true (z .tasks) 64 h))
+    go false h = sym (says-untimed z p (λ i w. let b = ltb-false (z .tasks) 64 h in absurd (omega arith)))

@@ -77,6 +77,17 @@ impl Place {
         }
     }
 
+    // The place byte p says 'on the timer'. It is asked of every message, so the byte is compared and not decoded.
+    pub fn says_on_timer(z: Size, p: u8) -> bool
+        ensures { λ res. ⌜ res ≡ isOnTimer (placeOf z p) ⌝ }
+    {
+        if p != 128 {
+            return false;
+        }
+        // among more than 63 tasks this byte would name a receiver or a holder
+        z.tasks < 64
+    }
+
     // The place byte p says 'queued at task k'. A walk asks it of every message, so the byte is compared and not decoded.
     pub fn says_queued(z: Size, k: TaskNo, p: u8) -> bool
         ensures { λ res. ⌜ res ≡ isQueuedAt (k .0) (placeOf z p) ⌝ }

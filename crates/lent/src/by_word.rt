@@ -3,8 +3,10 @@
 ghost use mathlib.Core.Path.{_≡_};
 ghost use Prim.Native.Nat.{_≤_};
 ghost use lib.ListN.{length};
+ghost use Rattle.board.specs.Places.{isOnTimer};
 ghost use Rattle.board.specs.Board.{total, boardOf, task, message, place};
 use crate::bytes::message_at;
+use crate::bytes::on_timer;
 use crate::bytes::place_at;
 use crate::bytes::task_at;
 use board::numbers::MessageMeant;
@@ -47,4 +49,16 @@ pub fn place_meant(z: Size, l: &[u8], w: u16) -> Place
         return Place::Free;
     };
     place_at(z, l, m)
+}
+
+// The message is on the timer.
+pub fn is_timed(z: Size, l: &[u8], w: u16) -> bool
+    requires { ⌜ total z ≤ length (now l) ⌝ }
+    ensures { λ res. ⌜ res ≡ isOnTimer (place (boardOf z (now (l .entry))) w) ⌝ }
+{
+    let meant = MsgNo::meant(z, w);
+    let MessageMeant::Message(m) = meant else {
+        return false;
+    };
+    on_timer(z, l, m)
 }

@@ -7,7 +7,7 @@ ghost use lib.Dec.{eqb};
 ghost use lib.ListN.{getD, set, length};
 ghost use Rattle.board.specs.Numbers.{taskMeant, messageMeant, numberOfTask};
 ghost use Rattle.board.specs.Records.{wordAt};
-ghost use Rattle.board.specs.Places.{isQueuedAt};
+ghost use Rattle.board.specs.Places.{isQueuedAt, isOnTimer};
 ghost use Rattle.board.specs.Board.{total, boardOf, task, message, place};
 ghost use Rattle.lent.specs.Links.{messageLink};
 ghost use Rattle.board.specs.Writes.{putFirst, putRunning, putTask, putMessage, putPlace};
@@ -288,6 +288,27 @@ pub fn queued_at(z: Size, l: &[u8], k: TaskNo, m: MsgNo) -> bool
     Place::says_queued(
         z,
         k,
+        byte_in(
+            l,
+            10 * (z.tasks as usize) + 8 * (z.messages as usize) + n + 3,
+        ),
+    )
+}
+
+// Message m is on the timer.
+pub fn on_timer(z: Size, l: &[u8], m: MsgNo) -> bool
+    requires { ⌜ total z ≤ length (now l) ⌝ }
+    ensures { λ res. ⌜ res ≡ isOnTimer (place (boardOf z (now (l .entry))) (m .0)) ⌝ }
+{
+    let n = m.number() as usize;
+    if n == 0 {
+        return false;
+    }
+    if (z.messages as usize) < n {
+        return false;
+    }
+    Place::says_on_timer(
+        z,
         byte_in(
             l,
             10 * (z.tasks as usize) + 8 * (z.messages as usize) + n + 3,

@@ -8,8 +8,7 @@ ghost use Rattle.timer.specs.Timer.{timerOf};
 ghost use Rattle.timing.specs.Timing.{goodTimer};
 ghost use Rattle.timer_calls.specs.Buffer.{namedBefore, usedOf, timedOf};
 use board::numbers::Size;
-use board::places::Place;
-use lent::by_word::place_meant;
+use lent::by_word::is_timed;
 use timer::bytes::entry_at;
 
 // How many entries are used, if each is good.
@@ -28,8 +27,7 @@ fn count_timed(z: Size, l: &[u8]) -> u16
     let mut n: u16 = 0;
     while m < most {
         m += 1;
-        let p = place_meant(z, l, m);
-        if p.is_on_timer() {
+        if is_timed(z, l, m) {
             n += 1;
         }
     }
@@ -63,8 +61,7 @@ fn count_used(z: Size, l: &[u8], s: &[u8]) -> Entries
         i += 1;
         let e = entry_at(s, i);
         if e.used() {
-            let p = place_meant(z, l, e.message as u16);
-            if !p.is_on_timer() {
+            if !is_timed(z, l, e.message as u16) {
                 return Entries::Bad;
             }
             if named_before(s, i, e.message) {
