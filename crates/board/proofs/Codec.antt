@@ -1,28 +1,29 @@
 -- Nothing is lost between the bytes and the records: a record read back from its bytes is the record, bytes written back from a
 -- record are the bytes, and so of the whole board.
 -- Assumes nothing.
-use mathlib.Core.Path.{_≡_, refl, sym, ap, ap₂, _∙_}
+use mathlib.Core.Path.{_≡_, refl, sym, ap, ap₂, _∙_, subst}
 use mathlib.Core.Logic.{_≢_}
 use mathlib.Core.Bool.{Bool, true, false}
-use mathlib.Core.List.{List, [], _∷_, _++_, map}
+use mathlib.Core.List.{List, [], _∷_, _++_, map, append-assoc}
 use Prim.Native.Nat.{ℕ, zero, suc, _+_, _-_, _*_, _/_, _%_, _≤_, _<_}
 use native.Mathlib.Nat.{mul-suc, mul-zero, mod-eq-of-lt}
 use native.Mathlib.Omega.{arith}
 use borrow.Author.Tests.{eq-eqb, ne-eqb, eqb-true, eqb-false}
 use lib.Dec.{eqb}
-use lib.ListN.{length, getD, take, drop, take-append-drop, length-drop, length-map, drop-of-length-le}
-use lib.Seq.{drop-drop, drop-cons, take-add, take-all, length-take-le}
+use lib.ListN.{length, getD, set, take, drop, take-append-drop, length-append, length-drop, length-map, drop-of-length-le}
+use lib.Seq.{sets, drop-drop, drop-cons, take-add, take-all, take-at, drop-at, length-take-le}
 use Rattle.board.specs.declared.numbers.Size.{Size}
 use Rattle.board.specs.declared.records.Task.{Task}
 use Rattle.board.specs.declared.records.Message.{Message}
 use Rattle.board.specs.declared.places.Place.{Place}
 use Rattle.board.specs.declared.places.Place.the-variants.{Free, HeldBy, QueuedAt, OnTimer, Nowhere}
 use Rattle.board.specs.Numbers.{outside, taskNo}
-use Rattle.board.specs.Records.{wordAt, wordBytes, taskOf, taskBytes, messageOf, messageBytes}
+use Rattle.board.specs.Records.{Byte, Word, wordAt, wordBytes, taskOf, taskBytes, messageOf, messageBytes}
 use Rattle.board.specs.Places.{placeOf, placeByte, placeIn, placeBytes}
-use Rattle.board.specs.Board.{total, taskArea, messageArea, placeArea, cut, join, pieces, boardOf, bytesOf}
+use Rattle.board.specs.Board.{Area, total, taskArea, messageArea, placeArea, cut, join, pieces, boardOf, bytesOf}
+use Rattle.board.specs.Writes.{start, putIn}
 use Rattle.board.specs.Claims.{WritingBackChangesNothing}
-use Rattle.board.proofs.Pieces.{length-pieces, outside-within, within-outside, outside-above}
+use Rattle.board.proofs.Pieces.{length-pieces, outside-within, within-outside, outside-above, putIn-outside, putIn-within}
 
 -- ---- bytes
 -- every number is a byte
@@ -46,26 +47,56 @@ small-take zero l h = tt
 small-take (suc n) [] h = tt
 small-take (suc n) (x ∷ l) h = (h .0, small-take n l (h .1))
 
-small-drop : (n : ℕ) (l : List ℕ) → Small l → Small (drop n l)
+-- what is left after the first few are dropped is bytes too
+pub small-drop : (n : ℕ) (l : List ℕ) → Small l → Small (drop n l)
 small-drop zero l h = h
 small-drop (suc n) [] h = tt
 small-drop (suc n) (x ∷ l) h = small-drop n l (h .1)
 
+-- bytes behind bytes are bytes
+pub small-append : (l r : List ℕ) → Small l → Small r → Small (l ++ r)
+small-append [] r h g = g
+small-append (x ∷ l) r h g = (h .0, small-append l r (h .1) g)
+
+small-set : (l : List ℕ) (i v : ℕ) → Small l → v < 256 → Small (set l i v)
+small-set [] i v h g = tt
+small-set (x ∷ l) zero v h g = (g, h .1)
+small-set (x ∷ l) (suc i) v h g = (h .0, small-set l i v (h .1) g)
+
+small-sets : (l : List ℕ) (i : ℕ) (vs : List ℕ) → Small l → Small vs → Small (sets l i vs)
+small-sets l i [] h g = h
+small-sets l i (v ∷ vs) h g = small-sets (set l i v) (suc i) vs (small-set l i v h (g .0)) (g .1)
+
+-- bytes with a record of bytes written are bytes
+pub small-putIn : (a : Area) (l : List ℕ) (k : ℕ) (vs : List ℕ) → Small l → Small vs → Small (putIn a l k vs)
+small-putIn a l k vs h g = go (outside (a .count) k) refl
+  where
+    go : (t : Bool) → outside (a .count) k ≡ t → Small (putIn a l k vs)
+    go true e = subst Small (sym (putIn-outside a l k vs e)) h
+    go false e = subst Small (sym (putIn-within a l k vs e)) (small-sets l (start a k) vs h g)
+
 -- the n bytes from i on, one by one
-abbrev bytesFrom : ℕ → ℕ → List ℕ → List ℕ
+abbrev pub bytesFrom : ℕ → ℕ → List ℕ → List ℕ
 bytesFrom i zero l = []
 bytesFrom i (suc n) l = getD l i 0 ∷ bytesFrom (suc i) n l
 
-drop-listed : (i n : ℕ) (l : List ℕ) → length l ≡ i + n → drop i l ≡ bytesFrom i n l
+-- all bytes from i on, one by one
+pub drop-listed : (i n : ℕ) (l : List ℕ) → length l ≡ i + n → drop i l ≡ bytesFrom i n l
 drop-listed i zero l e = drop-of-length-le l {i = i} (omega arith)
 drop-listed i (suc n) l e =
     drop-cons l i 0 (omega arith) ∙ ap (λ (r : List ℕ). getD l i 0 ∷ r) (drop-listed (suc i) n l (omega arith))
 
 -- ---- one record
-word-back : (w : ℕ) → w % 256 + 256 * (w / 256) ≡ w
+-- the two bytes of a word
+pub word-halves : (n : ℕ) → Word n → Byte (n % 256) × Byte (n / 256)
+word-halves n h = (omega arith, omega arith)
+
+-- a word read back from its two bytes is the word
+pub word-back : (w : ℕ) → w % 256 + 256 * (w / 256) ≡ w
 word-back w = omega arith
 
-word-whole : (l : List ℕ) (i : ℕ) → Small l → wordBytes (wordAt l i) ≡ getD l i 0 ∷ getD l (i + 1) 0 ∷ []
+-- two bytes written back from the word that they are, are the bytes
+pub word-whole : (l : List ℕ) (i : ℕ) → Small l → wordBytes (wordAt l i) ≡ getD l i 0 ∷ getD l (i + 1) 0 ∷ []
 word-whole l i h =
     let b = small-at l i h in
     let low : wordAt l i % 256 ≡ getD l i 0 = omega arith in
@@ -153,8 +184,9 @@ place-whole z p h = go (eqb p 0) refl (outside (z .tasks) p) refl (outside (z .t
         let q : 64 + (p - 64) ≡ p = omega arith in
         from (QueuedAt (taskNo (p - 64))) (place-receiver z p (p - 64) (eqb-false p 0 e) f refl g) q
 
--- ---- the board
-join-cut : {A : Type 0} (f : List ℕ → A) (g : A → List ℕ) (w : ℕ) → ((p : List ℕ) → length p ≡ w → Small p → g (f p) ≡ p)
+-- ---- records one behind the other
+-- bytes read as records and written back are the bytes
+pub join-cut : {A : Type 0} (f : List ℕ → A) (g : A → List ℕ) (w : ℕ) → ((p : List ℕ) → length p ≡ w → Small p → g (f p) ≡ p)
     → (n : ℕ) (l : List ℕ) → w * n ≤ length l → Small l → join (map g (map f (cut n w l))) ≡ take (w * n) l
 join-cut f g w whole zero l e h = ap (λ (k : ℕ). take k l) (sym (mul-zero w))
 join-cut f g w whole (suc n) l e h =
@@ -166,6 +198,38 @@ join-cut f g w whole (suc n) l e h =
     ∙ sym (take-add w (w * n) l)
     ∙ ap (λ (k : ℕ). take k l) t
 
+module _ {A : Type 0} (bytes : A → List ℕ) (w : ℕ) (long : (x : A) → length (bytes x) ≡ w) where
+  -- they are as long as so many are
+  pub length-records : (l : List A) → length (join (map bytes l)) ≡ w * length l
+  length-records [] = sym (mul-zero w)
+  length-records (x ∷ l) =
+      omega (arith, length-append (bytes x) (join (map bytes l)), long x, length-records l, mul-suc w (length l))
+
+  records-back : (of : List ℕ → A) (none : A) (l : List A) (rest : List ℕ)
+      → ((i : ℕ) → of (bytes (getD l i none)) ≡ getD l i none) → map of (cut (length l) w (join (map bytes l) ++ rest)) ≡ l
+  records-back of none [] rest h = refl
+  records-back of none (x ∷ l) rest h =
+      let j : List ℕ = join (map bytes l) ++ rest in
+      let e : join (map bytes (x ∷ l)) ++ rest ≡ bytes x ++ j = append-assoc (bytes x) (join (map bytes l)) rest in
+      ap (λ (y : List ℕ). of (take w y) ∷ map of (cut (length l) w (drop w y))) e
+      ∙ ap₂ (λ (p q : List ℕ). of p ∷ map of (cut (length l) w q)) (take-at (bytes x) j w (long x))
+      (drop-at (bytes x) j w (long x))
+      ∙ ap₂ _∷_ (h 0) (records-back of none l rest (λ i. h (suc i)))
+
+  -- read again from r, which starts with them, they are the same, where each is
+  pub records-read : (of : List ℕ → A) (none : A) (l : List A) (r rest : List ℕ) (n : ℕ) → length l ≡ n
+      → r ≡ join (map bytes l) ++ rest → ((i : ℕ) → of (bytes (getD l i none)) ≡ getD l i none) → map of (cut n w r) ≡ l
+  records-read of none l r rest n e d h =
+      ap₂ (λ (k : ℕ) (y : List ℕ). map of (cut k w y)) (sym e) d ∙ records-back of none l rest h
+
+-- they are bytes, where each is
+pub small-records : {A : Type 0} (bytes : A → List ℕ) (none : A) (l : List A) → ((i : ℕ) → Small (bytes (getD l i none)))
+    → Small (join (map bytes l))
+small-records bytes none [] h = tt
+small-records bytes none (x ∷ l) h =
+    small-append (bytes x) (join (map bytes l)) (h 0) (small-records bytes none l (λ i. h (suc i)))
+
+-- ---- the board
 glue : (n o : ℕ) (l : List ℕ) → take n (drop o l) ++ drop (o + n) l ≡ drop o l
 glue n o l = ap (λ (r : List ℕ). take n (drop o l) ++ r) (sym (drop-drop n o l)) ∙ take-append-drop n (drop o l)
 

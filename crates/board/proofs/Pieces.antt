@@ -192,6 +192,12 @@ module _ (a : Area) where
   pub take-putIn : (n : ℕ) (l : List ℕ) (k : ℕ) (vs : List ℕ) → n ≤ a .base → take n (putIn a l k vs) ≡ take n l
   take-putIn n l k vs h = putIn-keeps (take n) l k vs (λ e. take-sets-behind n (start a k) l vs (omega arith))
 
+  -- each of them reads as before
+  pub getD-putIn : (l : List ℕ) (k : ℕ) (vs : List ℕ) (i : ℕ) → i < a .base → getD (putIn a l k vs) i 0 ≡ getD l i 0
+  getD-putIn l k vs i h =
+      sym (getD-take (suc i) (putIn a l k vs) i 0 (omega arith)) ∙ ap (λ (r : List ℕ). getD r i 0) (take-putIn (suc i) l k vs h)
+      ∙ getD-take (suc i) l i 0 (omega arith)
+
   -- an area before this one stays
   pub pieces-before : (c : Area) (l : List ℕ) (k : ℕ) (vs : List ℕ) → c .base + c .count * c .stride ≤ a .base
       → pieces c (putIn a l k vs) ≡ pieces c l

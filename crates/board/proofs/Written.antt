@@ -8,7 +8,7 @@ use native.Mathlib.Nat.{mod-eq-of-lt}
 use native.Mathlib.Omega.{arith}
 use lib.Dec.{lit<}
 use lib.ListN.{length, getD, set, take, drop}
-use lib.Seq.{getD-take, getD-set-same, drop-set-lt}
+use lib.Seq.{getD-set-same, drop-set-lt}
 use Rattle.board.specs.declared.numbers.Size.{Size}
 use Rattle.board.specs.declared.records.Task.{Task}
 use Rattle.board.specs.declared.records.Message.{Message}
@@ -21,12 +21,12 @@ use Rattle.board.specs.Board.{Area, total, taskArea, messageArea, placeA
 use Rattle.board.specs.Board.{withFirst, withRunning, withTask, withMessage, withPlace}
 use Rattle.board.specs.Writes.{putIn, putFirst, putRunning, putTask, putMessage, putPlace}
 use Rattle.board.proofs.Numbered.{map-put}
-use Rattle.board.proofs.Pieces.{pieces-put, pieces-before, pieces-behind, take-putIn}
+use Rattle.board.proofs.Pieces.{pieces-put, pieces-before, pieces-behind, take-putIn, getD-putIn}
 use Rattle.board.proofs.Codec.{task-back, message-back, place-held, place-queued}
 
 -- ---- any area
 -- a record's bytes written are that record written
-record-put : {A : Type 0} (a : Area) (f : List ℕ → A) (l : List ℕ) (k : ℕ) (vs : List ℕ)
+pub record-put : {A : Type 0} (a : Area) (f : List ℕ → A) (l : List ℕ) (k : ℕ) (vs : List ℕ)
     → a .base + a .count * a .stride ≤ length l → length vs ≡ a .stride
     → map f (pieces a (putIn a l k vs)) ≡ put (map f (pieces a l)) k (f vs)
 record-put a f l k vs h v = ap (map f) (pieces-put a l k vs h v) ∙ map-put f (pieces a l) k vs
@@ -41,11 +41,11 @@ head-put : (a : Area) (l : List ℕ) (k : ℕ) (vs : List ℕ) → 4 ≤ a .base
     → let d = putIn a l k vs in
     (getD d 0 0 ≡ getD l 0 0) × (getD d 1 0 ≡ getD l 1 0) × (take 2 (drop 2 d) ≡ take 2 (drop 2 l))
 head-put a l k vs h =
-    let d : List ℕ = putIn a l k vs in
-    let e : take 4 d ≡ take 4 l = take-putIn a 4 l k vs h in
-    let byte : (i : ℕ) → i < 4 → getD d i 0 ≡ getD l i 0 =
-    λ i w. sym (getD-take 4 d i 0 w) ∙ ap (λ (r : List ℕ). getD r i 0) e ∙ getD-take 4 l i 0 w in
-    (byte 0 (lit< tt), byte 1 (lit< tt), rest-of-four d ∙ ap (drop 2) e ∙ sym (rest-of-four l))
+    let e : drop 2 (take 4 (putIn a l k vs)) ≡ drop 2 (take 4 l) = ap (drop 2) (take-putIn a 4 l k vs h) in (
+      getD-putIn a l k vs 0 (omega arith),
+      getD-putIn a l k vs 1 (omega arith),
+      rest-of-four (putIn a l k vs) ∙ e ∙ sym (rest-of-four l),
+    )
 
 -- bytes 0 and 1 are two, and every area lies behind them
 first-other : (l : List ℕ) (v : ℕ) → getD (set l 0 v) 1 0 ≡ getD l 1 0

@@ -37,7 +37,8 @@ beyond : (count k n : ℕ) → n ≡ k → count < n → outside count k ≡ tru
 beyond count k n e h = outside-above count k (omega arith)
 
 -- ---- reads at a number beyond the last
-record-beyond : {A : Type 0} (a : Area) (f : List ℕ → A) (none x : A) (l : List ℕ) (k n : ℕ) → n ≡ k → a .count < n → x ≡ none
+-- any record
+pub record-beyond : {A : Type 0} (a : Area) (f : List ℕ → A) (none x : A) (l : List ℕ) (k n : ℕ) → n ≡ k → a .count < n → x ≡ none
     → x ≡ nth none (map f (pieces a l)) k
 record-beyond a f none x l k n e h q =
     let c = length-map (pieces a l) f ∙ length-pieces a l in
@@ -62,10 +63,13 @@ module _ (a : Area) (l : List ℕ) (k o : ℕ) (e : outside (a .count) k ≡ fal
   byte-read : (i : ℕ) → T (ltb i (a .stride)) → getD l (o + i) 0 ≡ getD (nth [] (pieces a l) k) i 0
   byte-read i t = ap (λ (x : ℕ). getD l (x + i) 0) h ∙ sym (piece-byte a l k i e (ltb→lt i (a .stride) t))
 
-  first-read : T (ltb 0 (a .stride)) → getD l o 0 ≡ getD (nth [] (pieces a l) k) 0 0
+  -- its first byte
+  pub first-read : T (ltb 0 (a .stride)) → getD l o 0 ≡ getD (nth [] (pieces a l) k) 0 0
   first-read t = ap (λ (x : ℕ). getD l x 0) (sym (add-zero o)) ∙ byte-read 0 t
 
-  word-read : (i : ℕ) → T (ltb i (a .stride)) → T (ltb (i + 1) (a .stride)) → wordAt l (o + i) ≡ wordAt (nth [] (pieces a l) k) i
+  -- a word of it
+  pub word-read : (i : ℕ) → T (ltb i (a .stride)) → T (ltb (i + 1) (a .stride))
+      → wordAt l (o + i) ≡ wordAt (nth [] (pieces a l) k) i
   word-read i t u =
       ap₂ (λ (x y : ℕ). x + 256 * y) (byte-read i t) (ap (λ (x : ℕ). getD l x 0) (add-assoc o i 1) ∙ byte-read (i + 1) u)
 
@@ -131,7 +135,8 @@ putIn-beyond a l k n vs e h = sym (putIn-outside a l k vs (beyond (a .count) k n
 abbrev pub setWord : List ℕ → ℕ → ℕ → List ℕ
 setWord l i w = set (set l i (w % 256)) (i + 1) (w / 256)
 
-sets-at : (a : Area) (l : List ℕ) (k o : ℕ) (vs : List ℕ) → outside (a .count) k ≡ false → o ≡ start a k
+-- the stores from there on write the record
+pub sets-at : (a : Area) (l : List ℕ) (k o : ℕ) (vs : List ℕ) → outside (a .count) k ≡ false → o ≡ start a k
     → sets l o vs ≡ putIn a l k vs
 sets-at a l k o vs e h = ap (λ (x : ℕ). sets l x vs) h ∙ sym (putIn-within a l k vs e)
 

@@ -1,0 +1,3 @@
+mod Access
+pub mod Codec
+pub mod Written
