@@ -1,9 +1,9 @@
 -- The claims of specs/Claims, proved. Assumes nothing.
 use mathlib.Core.Path.{_≡_, refl, sym, ap, _∙_, subst}
 use mathlib.Core.Logic.{_≢_, inl, inr}
-use mathlib.Core.Bool.{Bool, true, false, cond, _&&_, _||_, true≢false}
+use mathlib.Core.Bool.{Bool, true, false, cond, _&&_, _||_}
 use mathlib.Core.List.{List, [], _∷_}
-use Prim.Native.Nat.{ℕ, zero, suc, _-_, _≤_, _<_}
+use Prim.Native.Nat.{ℕ, zero, suc, _-_, _<_}
 use native.Mathlib.Omega.{arith}
 use lib.ListN.{getD}
 use lib.Dec.{eqb, ltb}
@@ -46,7 +46,7 @@ unchanged-cond : (t : Bool) (l : List ℕ) (o p : Outcome) → Unchanged l o →
 unchanged-cond true l o p h i = h
 unchanged-cond false l o p h i = i
 
-unchanged-judge : (l : List ℕ) (v : Verdict) (o : Outcome) → Unchanged l o → Unchanged l (judge l v o)
+pub unchanged-judge : (l : List ℕ) (v : Verdict) (o : Outcome) → Unchanged l o → Unchanged l (judge l v o)
 unchanged-judge l Go o h = h
 unchanged-judge l (Stop q) o h = λ k e. refl
 
@@ -54,7 +54,7 @@ unchanged-deliver : (z : Size) (l : List ℕ) (d : Undispatched) (c : ℕ) → U
 unchanged-deliver z l d c =
     unchanged-cond (emptyQueue (d .board) c) l (refused l NothingToDeliver) _ (λ k e. refl) (unchanged-accepted _ _ _ l _)
 
-unchanged-dispatch : (z : Size) (l : List ℕ) (d : Undispatched) (c : ℕ) → Unchanged l (dispatchTo z l d c)
+pub unchanged-dispatch : (z : Size) (l : List ℕ) (d : Undispatched) (c : ℕ) → Unchanged l (dispatchTo z l d c)
 unchanged-dispatch z l d c =
     unchanged-cond (has (task (d .board) c .stat) MHBS) l (deliver z l d c) (accepted (d .value) c 0 (bytesOf (d .board)))
     (unchanged-deliver z l d c) (unchanged-accepted (d .value) c 0 l (bytesOf (d .board)))
@@ -70,7 +70,7 @@ refusal-changes-nothing z l = let b = boardOf z l in let c = b .running in (
 
 -- ---- the first of the row is given
 -- what a verdict on tests says
-abbrev Decided : Verdict → List Test → Type 0
+abbrev pub Decided : Verdict → List Test → Type 0
 Decided Go tests = All (λ t. t .applies ≡ false) tests
 Decided (Stop q) tests = First q tests
 
@@ -86,6 +86,19 @@ decided (t ∷ tests) = go (t .applies) refl (decided tests)
         → Decided (elim v [ true ↦ Stop (t .refusal) | false ↦ given tests ]) (t ∷ tests)
     go true e h = inl (e, refl)
     go false e h = behind (given tests) e h
+
+-- where none is given none applies, and one that is given is the first that applies
+pub go-none : (tests : List Test) → given tests ≡ Go → All (λ t. t .applies ≡ false) tests
+go-none tests g = subst (λ (v : Verdict). Decided v tests) g (decided tests)
+
+pub stop-first : (tests : List Test) (q : Refusal) → given tests ≡ Stop q → First q tests
+stop-first tests q g = subst (λ (v : Verdict). Decided v tests) g (decided tests)
+
+-- what holds of each refusal of a row holds of the first that applies
+pub first-holds : (P : Refusal → Type 0) (q : Refusal) (tests : List Test) → All (λ t. P (t .refusal)) tests → First q tests → P q
+first-holds P q [] h f = absurd f
+first-holds P q (t ∷ tests) h (inl (a, e)) = subst P e (h .0)
+first-holds P q (t ∷ tests) h (inr (a, f)) = first-holds P q tests (h .1) f
 
 -- ---- the rows ascend
 -- the numbers of the tests ascend from above n, and stay below 15
@@ -109,9 +122,7 @@ all-above n (t ∷ tests) h =
 -- and so is the first of them that applies
 pub first-above : (n : ℕ) (q : Refusal) (tests : List Test) → All (λ t. n < numberOf (t .refusal)) tests → First q tests
     → n < numberOf q
-first-above n q [] h f = absurd f
-first-above n q (t ∷ tests) h (inl (a, e)) = let k = ap numberOf e in omega (arith, h .0)
-first-above n q (t ∷ tests) h (inr (a, f)) = first-above n q tests (h .1) f
+first-above n = first-holds (λ q. n < numberOf q)
 
 ascending : (n : ℕ) (tests : List Test) → ascends n tests ≡ true → Ascends tests
 ascending n [] h = tt
@@ -156,7 +167,7 @@ row-below z l b c call = stop-below 0 (row z l b c call) (row-ascends z l b c ca
 
 -- what the verdict says, the answer says; where none applies dispatch answers, and its refusal is 15
 module _ (tests : List Test) where
-  given-judged : (l : List ℕ) (o : Outcome) → (Decided Go tests → Given (o .answer) tests)
+  pub given-judged : (l : List ℕ) (o : Outcome) → (Decided Go tests → Given (o .answer) tests)
       → Given (judge l (given tests) o .answer) tests
   given-judged l o h = step (given tests) (decided tests)
     where
@@ -164,7 +175,7 @@ module _ (tests : List Test) where
       step Go d = h d
       step (Stop q) d = λ n. d
 
-  given-dispatched : (z : Size) (l : List ℕ) (d : Undispatched) (c : ℕ) → Decided Go tests → Given (dispatchTo z l d c .answer) tests
+  pub given-dispatched : (z : Size) (l : List ℕ) (d : Undispatched) (c : ℕ) → Decided Go tests → Given (dispatchTo z l d c .answer) tests
   given-dispatched z l d c h =
       cond-holds (λ (o : Outcome). Given (o .answer) tests) (has (task (d .board) c .stat) MHBS) _ _
       (λ e. cond-holds (λ (o : Outcome). Given (o .answer) tests) (emptyQueue (d .board) c) _ _ (λ i n. absurd (n refl)) (λ i. h)) (λ e. h)
