@@ -1,14 +1,14 @@
 -- A board that fits is its bytes: read again it is the same board; its bytes are bytes, as many as the size says; and a board
 -- that is read from such bytes fits.
 -- Assumes nothing.
-use mathlib.Core.Path.{_≡_, refl, sym, ap, ap₂, _∙_, subst}
+use mathlib.Core.Path.{_≡_, refl, sym, ap, _∙_, subst}
 use mathlib.Core.Bool.{Bool, true, false}
-use mathlib.Core.List.{List, [], _∷_, _++_, map, append-nil, append-assoc}
-use Prim.Native.Nat.{ℕ, suc, _+_, _-_, _*_, _/_, _%_, _<_}
-use native.Mathlib.Nat.{mul-suc, mul-zero, mod-eq-of-lt}
+use mathlib.Core.List.{List, [], _∷_, _++_, map, append-nil}
+use Prim.Native.Nat.{ℕ, suc, _+_, _-_, _*_, _<_}
+use native.Mathlib.Nat.{mod-eq-of-lt}
 use native.Mathlib.Omega.{arith}
 use lib.Dec.{eqb, lit<}
-use lib.ListN.{length, getD, take, drop, length-append, length-drop}
+use lib.ListN.{length, getD, drop, length-append, length-drop}
 use lib.Seq.{drop-drop, take-at, drop-at, length-take-le}
 use borrow.Author.Tests.{eqb-true}
 use Rattle.links.specs.Chain.{All}
@@ -21,58 +21,19 @@ use Rattle.board.specs.declared.places.Place.the-variants.{Free}
 use Rattle.board.specs.Numbers.{outside}
 use Rattle.board.specs.Records.{Byte, Word, wordAt, taskOf, taskBytes, noTask, messageOf, messageBytes, noMessage}
 use Rattle.board.specs.Places.{placeOf, placeByte, placeIn, placeBytes}
-use Rattle.board.specs.Board.{Area, Board, board, taskArea, messageArea, placeArea, cut, join, pieces, boardOf, bytesOf, nth}
+use Rattle.board.specs.Board.{Area, Board, board, taskArea, messageArea, placeArea, join, pieces, boardOf, bytesOf, nth}
 use Rattle.board.specs.Claims.{Bytes}
 use Rattle.board.proofs.Numbered.{nth-map}
 use Rattle.board.proofs.Pieces.{outside-within, nth-outside, length-pieces, piece-byte}
-use Rattle.board.proofs.Codec.{Small, small-at, task-back, message-back, length-tasks, length-messages, length-places}
+use Rattle.board.proofs.Codec.{Small, small-at, small-append, small-records, word-halves, length-records, records-read}
+use Rattle.board.proofs.Codec.{task-back, message-back, length-tasks, length-messages, length-places}
 use Rattle.kept.specs.Settled.{FitsTask, FitsMessage, Fits}
 use Rattle.kept.proofs.Reading.{FitsPlace}
 
--- ---- records written one behind the other
-module _ {A : Type 0} (bytes : A → List ℕ) (w : ℕ) (long : (x : A) → length (bytes x) ≡ w) where
-  -- they are as long as so many are
-  length-records : (l : List A) → length (join (map bytes l)) ≡ w * length l
-  length-records [] = sym (mul-zero w)
-  length-records (x ∷ l) =
-      omega (arith, length-append (bytes x) (join (map bytes l)), long x, length-records l, mul-suc w (length l))
-
-  -- read again they are the same, where each is
-  records-back : (of : List ℕ → A) (none : A) (l : List A) (rest : List ℕ)
-      → ((i : ℕ) → of (bytes (getD l i none)) ≡ getD l i none) → map of (cut (length l) w (join (map bytes l) ++ rest)) ≡ l
-  records-back of none [] rest h = refl
-  records-back of none (x ∷ l) rest h =
-      let j : List ℕ = join (map bytes l) ++ rest in
-      let e : join (map bytes (x ∷ l)) ++ rest ≡ bytes x ++ j = append-assoc (bytes x) (join (map bytes l)) rest in
-      ap (λ (y : List ℕ). of (take w y) ∷ map of (cut (length l) w (drop w y))) e
-      ∙ ap₂ (λ (p q : List ℕ). of p ∷ map of (cut (length l) w q)) (take-at (bytes x) j w (long x))
-      (drop-at (bytes x) j w (long x))
-      ∙ ap₂ _∷_ (h 0) (records-back of none l rest (λ i. h (suc i)))
-
-  -- so they are where r starts with them
-  records-read : (of : List ℕ → A) (none : A) (l : List A) (r rest : List ℕ) (n : ℕ) → length l ≡ n
-      → r ≡ join (map bytes l) ++ rest → ((i : ℕ) → of (bytes (getD l i none)) ≡ getD l i none) → map of (cut n w r) ≡ l
-  records-read of none l r rest n e d h =
-      ap₂ (λ (k : ℕ) (y : List ℕ). map of (cut k w y)) (sym e) d ∙ records-back of none l rest h
-
 -- ---- numbers below 256
-small-append : (l r : List ℕ) → Small l → Small r → Small (l ++ r)
-small-append [] r h g = g
-small-append (x ∷ l) r h g = (h .0, small-append l r (h .1) g)
-
 small-zeros : (l : List ℕ) → All (λ x. x ≡ 0) l → Small l
 small-zeros [] h = tt
 small-zeros (x ∷ l) h = (rw (h .0) (lit< tt), small-zeros l (h .1))
-
-small-records : {A : Type 0} (bytes : A → List ℕ) (none : A) (l : List A) → ((i : ℕ) → Small (bytes (getD l i none)))
-    → Small (join (map bytes l))
-small-records bytes none [] h = tt
-small-records bytes none (x ∷ l) h =
-    small-append (bytes x) (join (map bytes l)) (h 0) (small-records bytes none l (λ i. h (suc i)))
-
--- the two bytes of a word
-word-halves : (n : ℕ) → Word n → Byte (n % 256) × Byte (n / 256)
-word-halves n h = (omega arith, omega arith)
 
 small-task : (t : Task) → FitsTask t → Small (taskBytes t)
 small-task t f =
