@@ -14,20 +14,21 @@ use Rattle.board.specs.Numbers.{outside}
 use Rattle.board.specs.Places.{placeOf, isFree}
 use Rattle.board.specs.Board.{boardOf}
 use Rattle.board.proofs.Pieces.{outside-within}
-use Rattle.board.proofs.Codec.{place-free, place-held, place-receiver, place-nowhere}
+use Rattle.board.proofs.Codec.{place-free, place-held, place-receiver, place-timer, place-nowhere}
 use Rattle.lent.proofs.Access.{place-reads, place-beyond}
 use Rattle.four_places.specs.Fours.{noneZero, inUse, noneFree}
 
 -- a place is free exactly if its byte is 0
 free-zero : (z : Size) (p : ℕ) → isFree (placeOf z p) ≡ eqb p 0
-free-zero z p = go (eqb p 0) refl (outside (z .tasks) p) refl (outside (z .tasks) (p - 64)) refl
+free-zero z p = go (eqb p 0) refl (outside (z .tasks) p) refl (outside (z .tasks) (p - 64)) refl (eqb p 128) refl
   where
     go : (s : Bool) → eqb p 0 ≡ s → (t : Bool) → outside (z .tasks) p ≡ t → (u : Bool) → outside (z .tasks) (p - 64) ≡ u
-        → isFree (placeOf z p) ≡ s
-    go true f t g u h = ap isFree (place-free z p (eqb-true p 0 f))
-    go false f false g u h = let w = outside-within (z .tasks) p g in ap isFree (place-held z p (w .0) (w .1))
-    go false f true g true h = ap isFree (place-nowhere z p (eqb-false p 0 f) g h)
-    go false f true g false h = ap isFree (place-receiver z p (p - 64) (eqb-false p 0 f) g refl h)
+        → (v : Bool) → eqb p 128 ≡ v → isFree (placeOf z p) ≡ s
+    go true f t g u h v i = ap isFree (place-free z p (eqb-true p 0 f))
+    go false f false g u h v i = let w = outside-within (z .tasks) p g in ap isFree (place-held z p (w .0) (w .1))
+    go false f true g true h true i = ap isFree (place-timer z p (eqb-true p 128 i) g h)
+    go false f true g true h false i = ap isFree (place-nowhere z p (eqb-false p 0 f) (eqb-false p 128 i) g h)
+    go false f true g false h v i = ap isFree (place-receiver z p (p - 64) (eqb-false p 0 f) g refl h)
 
 module _ (z : Size) (l : List ℕ) where
   -- message m by the byte of its place, which is at o
