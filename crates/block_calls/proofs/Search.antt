@@ -1,14 +1,13 @@
 -- The search for the lowest free message: what a turn of each loop of `lowest_free`, and each way out of it, make of the definition.
 -- Assumes nothing.
 use mathlib.Core.Path.{_≡_, refl, sym, ap, _∙_}
-use mathlib.Core.Logic.{⊎-elim}
 use mathlib.Core.Bool.{true, false}
 use mathlib.Core.List.{List, [], _∷_}
 use Prim.Native.Nat.{ℕ, _+_, _≤_, _<_}
 use native.Mathlib.Omega.{arith}
 use borrow.Author.Tests.{not-true}
 use denote.Enum.Declared.{tagOf}
-use types.Run.{OneOf}
+use types.Run.{OneOf, miss}
 use Rattle.links.proofs.Bools.{both}
 use Rattle.board.specs.declared.numbers.Size.{Size}
 use Rattle.board.specs.declared.numbers.MessageMeant.{MessageMeant}
@@ -28,9 +27,12 @@ use Rattle.four_places.proofs.Groups.{four-within}
 abbrev pub Sought : Board → ℕ → Type 0
 Sought b m = foundAbove isFree b m ≡ lowestFree b
 
--- the code met another variant than Free
-not-free : (p : Place) → OneOf (1 ∷ 2 ∷ 3 ∷ 4 ∷ []) (tagOf the-type p) → isFree p ≡ false
-not-free Free i = absurd (⊎-elim (λ f. omega arith) (λ j. ⊎-elim (λ f. omega arith) (λ n. ⊎-elim (λ f. omega arith) (λ f. omega arith) n) j) i)
+-- the code met another variant than Free, which is variant 0
+abbrev others : List ℕ
+others = 1 ∷ 2 ∷ 3 ∷ 4 ∷ []
+
+not-free : (p : Place) → OneOf others (tagOf the-type p) → isFree p ≡ false
+not-free Free i = absurd (miss others 0 tt i)
 not-free (HeldBy k) i = refl
 not-free (QueuedAt k) i = refl
 not-free OnTimer i = refl
@@ -70,5 +72,5 @@ module _ (z : Size) (l : List ℕ) where
       free-here f ex = ex ∙ ap (messageMeant z) (found-here (λ x. x) isFree z l m inv h (ap isFree (sym e ∙ f)))
 
       -- it is not
-      pub free-above : OneOf (1 ∷ 2 ∷ 3 ∷ 4 ∷ []) (tagOf the-type p) → Sought b (m + 1)
+      pub free-above : OneOf others (tagOf the-type p) → Sought b (m + 1)
       free-above f = found-above (λ x. x) isFree z l m inv h (ap isFree (sym e) ∙ not-free p f)
