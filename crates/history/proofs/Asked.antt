@@ -20,10 +20,10 @@ use Rattle.board.specs.declared.places.Place.{Place}
 use Rattle.board.specs.declared.places.Place.the-variants.{Free, QueuedAt}
 use Rattle.board.specs.Numbers.{taskNo, Numbered}
 use Rattle.board.specs.Places.{isFree, isHeldBy}
-use Rattle.board.specs.Board.{Board, task, place}
+use Rattle.board.specs.Board.{Board, task, message, place}
 use Rattle.paper.specs.Rules.{present, nextMessage, queue, taskNumber, ready, outranks, firstReady, runsNext}
 use Rattle.paper.specs.Effects.{lowestFree, find}
-use Rattle.paper.specs.Refusals.{holdsOne}
+use Rattle.paper.specs.Refusals.{holdsOne, isAwaited}
 use Rattle.linked.specs.Sound.{PlaceGood}
 use Rattle.linked.proofs.Running.{placed-numbered, first-with, first-none, ready-says}
 use Rattle.linked.proofs.Chosen.{ready-numbered}
@@ -38,7 +38,7 @@ use Rattle.history.proofs.Entries.{times-keep, in-keep}
 use Rattle.history.proofs.Names.{names-foremost, names-leads, in-names}
 use Rattle.history.proofs.Listed.{isAt}
 use Rattle.history.proofs.Named.{Named}
-use Rattle.history.proofs.Places.{whoseOf, somewhere, free-alike, held-alike}
+use Rattle.history.proofs.Places.{whoseOf, somewhere, free-alike, held-alike, timed-alike}
 use Rattle.history.proofs.Machines.{plainOf}
 
 -- ---- the lowest number that passes
@@ -84,21 +84,26 @@ module _ (z : Size) (b : Board) (q : List ℕ) (f : ℕ → List ℕ) (h : kept.
       let n = placed-numbered b m (λ d. true≢false (sym (ap isFree (sym e ∙ d)))) in
       subst (PlaceGood z b m) e (h .regular .places m (rw (h .fits .places) at n)))
 
-  given-place : (g : Whose → Bool) (t : Place → Bool) → ((m : ℕ) → g (whoseOf (place b m)) ≡ t (place b m))
+  lowest-place : (g : Whose → Bool) (t : Place → Bool) → ((m : ℕ) → g (whoseOf (place b m)) ≡ t (place b m))
       → lowestFrom (λ m. g (whoseOf (place b m))) 1 (z .messages) ≡ firstOf (which t 1 (b .places))
-  given-place g t e =
+  lowest-place g t e =
       ap (lowestFrom (λ m. g (whoseOf (place b m))) 1) (sym (h .fits .places))
       ∙ which-lowest Free t (λ m. g (whoseOf (place b m))) 1 (b .places)
       (λ i j d. let u : j ≡ suc i = omega arith in ap (λ (m : ℕ). g (whoseOf (place b m))) u ∙ e (suc i))
 
   -- which is free
   pub asked-free : (l s : List Entry) (n : ℕ) → plain.lowestFree z (plainOf b l s n) ≡ lowestFree b
-  asked-free l s n = given-place plain.isFree isFree (λ m. free-alike (place b m) (is-where m))
+  asked-free l s n = lowest-place plain.isFree isFree (λ m. free-alike (place b m) (is-where m))
 
   -- whether task k holds one
   pub asked-holds : (l s : List Entry) (n k : ℕ) → plain.holdsOne z (plainOf b l s n) k ≡ holdsOne b k
   asked-holds l s n k =
-      ap (λ (m : ℕ). not (eqb m 0)) (given-place (plain.isHeld k) (isHeldBy k) (λ m. held-alike k (place b m)))
+      ap (λ (m : ℕ). not (eqb m 0)) (lowest-place (plain.isHeld k) (isHeldBy k) (λ m. held-alike k (place b m)))
+
+  -- whether task k is awaited
+  pub asked-awaited : (l s : List Entry) (n k : ℕ) → plain.isAwaited z (plainOf b l s n) k ≡ isAwaited z b k
+  asked-awaited l s n k =
+      ap (λ (t : ℕ → Bool). not (each t (z .messages))) (λ i m. not (timed-alike (place b m) i && eqb (message b m .sptr) k))
 
 -- ---- a board that is settled and its machine
 module _ (z : Size) (b : Board) (q : List ℕ) (f : ℕ → List ℕ) (a : Sizes z) (h : kept.Settled z b q f)

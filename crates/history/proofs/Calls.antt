@@ -32,7 +32,7 @@ use Rattle.history.specs.Machine.{Plain, Played}
 use Rattle.history.proofs.Places.{held-alike, queued-alike}
 use Rattle.history.proofs.Named.{Named}
 use Rattle.history.proofs.Machines.{plainOf}
-use Rattle.history.proofs.Asked.{asked-find, asked-free, asked-holds, first-mptr, first-walked}
+use Rattle.history.proofs.Asked.{asked-find, asked-free, asked-holds, asked-awaited, first-mptr, first-walked}
 use Rattle.history.proofs.Same.{Same, same-at, same-holds, post-same, wait-same, claim-same, release-same, prepare-same, install-same, cancel-same}
 use Rattle.history.proofs.Placed.{forward-same, send-same, waits-same}
 use Rattle.history.proofs.Taken.{take-same, cancel-message-same}
@@ -126,9 +126,9 @@ module _ (z : Size) (b : Board) (q : List ℕ) (f : ℕ → List ℕ) (a : Sizes
   -- where 6 has passed, 10 is the same on the board and on the machine
   busy-row : (k : ℕ) → given (plain.play z p c (CancelTask k) .refusals) ≡ given (ownRow z b c (CancelTask k))
   busy-row k =
-      given-then (no3 c) (no6 z b k ∷ plain.no10 z p k ∷ []) (no6 z b k ∷ no10 b k ∷ []) (λ e.
-      given-then (no6 z b k) (plain.no10 z p k ∷ []) (no10 b k ∷ []) (λ u.
-      rw (first-mptr z b q f a h l s n w k (task-passed z b k u .0), asked-holds z b q f h l s n k)))
+      given-then (no3 c) (no6 z b k ∷ plain.no10 z p k ∷ []) (no6 z b k ∷ no10 z b k ∷ []) (λ e.
+      given-then (no6 z b k) (plain.no10 z p k ∷ []) (no10 z b k ∷ []) (λ u.
+      rw (first-mptr z b q f a h l s n w k (task-passed z b k u .0), asked-holds z b q f h l s n k, asked-awaited z b q f h l s n k)))
 
   -- ---- each call
   pub calls-alike : (call : Call) → CallAlike z b q f c call (plain.play z (plainOf b l s n) c call)

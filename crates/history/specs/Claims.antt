@@ -30,7 +30,7 @@ use Rattle.paper.specs.History.{Made}
 use Rattle.kept.specs.Settled.{AllFit}
 use Rattle.kept.specs.Claims.{Sizes}
 use Rattle.history.specs.Ranking.{Entry, keep, Ranking, DifferentTimes, Names}
-use Rattle.history.specs.Machine.{Sheet, Block, Whose, Free, Held, Queued, Plain, start, step}
+use Rattle.history.specs.Machine.{Sheet, Block, Whose, Free, Held, Queued, Timed, Plain, start, step}
 
 -- ---- the ranking is one
 pub record Ranked (l : List Entry) : Type 0 where
@@ -52,6 +52,7 @@ abbrev pub IsWhere : Place → Whose → Type 0
 IsWhere places.Free w = w ≡ Free
 IsWhere (places.HeldBy k) w = w ≡ Held (k .0)
 IsWhere (places.QueuedAt k) w = w ≡ Queued (k .0)
+IsWhere places.OnTimer w = w ≡ Timed
 IsWhere (places.Nowhere p) w = ⊥
 
 pub record LinksRank (next : ℕ → ℕ) (x : ℕ) (l : List Entry) : Type 0 where

@@ -1,8 +1,8 @@
 -- The plain machine of demand 3: the station without links. It keeps the other fields of tasks and messages, who holds what, the order of
 -- installs and placements, each with its priority and queue type, and who runs (document 02, Ask 3); no link, no head of a queue, no
--- insertion, no walk. A reader must believe this file, and can read it beside document 01: STAT bits are named as there, number and fifo read
--- a PRIO byte, withFifo sets its bit 0. The refusals that look at arguments alone are paper's (Refusals), as is lowest: of the tests of a row
--- the lowest that applies is given.
+-- insertion, no walk. Its timer, now and the entries, stands beside it (Clockwork). A reader must believe this file, and can read it beside
+-- document 01: STAT bits are named as there, number and fifo read a PRIO byte, withFifo sets its bit 0. The refusals that look at arguments
+-- alone are paper's (Refusals), as is given: of the tests of a row the first that applies is given.
 --   play z p c call   the call's row, c running: its refusals, its value, and the machine before dispatch
 --   step z p call     the answer of a call, and the machine afterwards; z has the numbers of tasks and messages
 -- Assumes nothing.
@@ -10,6 +10,7 @@ use mathlib.Core.Bool.{Bool, true, false, cond, not, _&&_, _||_}
 use mathlib.Core.List.{List, [], _∷_, _++_}
 use Prim.Native.Nat.{ℕ, zero, suc, _+_, _*_, _%_}
 use lib.Dec.{eqb, ltb}
+use Rattle.links.specs.Queue.{each}
 use Rattle.board.specs.declared.numbers.Size.{Size}
 use Rattle.board.specs.declared.status.Status.{Status}
 use Rattle.board.specs.Numbers.{outside}
@@ -42,6 +43,7 @@ pub data Whose : Type 0 where
   Free : Whose
   Held : ℕ → Whose
   Queued : ℕ → Whose
+  Timed : Whose
 
 pub record Plain : Type 0 where
   pub sheets : ℕ → Sheet
@@ -83,8 +85,9 @@ withInstalls p l = machine (p .sheets) (p .blocks) (p .whose) l (p .placements) 
 abbrev pub withPlacements : Plain → List Entry → Plain
 withPlacements p l = machine (p .sheets) (p .blocks) (p .whose) (p .installs) l (p .clock) (p .running)
 
-abbrev pub tick : Plain → Plain
-tick p = machine (p .sheets) (p .blocks) (p .whose) (p .installs) (p .placements) (suc (p .clock)) (p .running)
+-- one install or placement more
+abbrev pub later : Plain → Plain
+later p = machine (p .sheets) (p .blocks) (p .whose) (p .installs) (p .placements) (suc (p .clock)) (p .running)
 
 abbrev pub withRunning : Plain → ℕ → Plain
 withRunning p c = machine (p .sheets) (p .blocks) (p .whose) (p .installs) (p .placements) (p .clock) c
@@ -121,16 +124,25 @@ abbrev pub isFree : Whose → Bool
 isFree Free = true
 isFree (Held k) = false
 isFree (Queued k) = false
+isFree Timed = false
 
 abbrev pub isHeld : ℕ → Whose → Bool
 isHeld c Free = false
 isHeld c (Held k) = eqb k c
 isHeld c (Queued k) = false
+isHeld c Timed = false
 
 abbrev pub isQueued : ℕ → Whose → Bool
 isQueued r Free = false
 isQueued r (Held k) = false
 isQueued r (Queued k) = eqb k r
+isQueued r Timed = false
+
+abbrev pub isTimed : Whose → Bool
+isTimed Free = false
+isTimed (Held k) = false
+isTimed (Queued k) = false
+isTimed Timed = true
 
 -- the lowest of the n numbers from m on that passes, 0 if none does
 abbrev pub lowestFrom : (ℕ → Bool) → ℕ → ℕ → ℕ
@@ -143,13 +155,17 @@ lowestFree z p = lowestFrom (λ m. isFree (p .whose m)) 1 (z .messages)
 abbrev pub holdsOne : Size → Plain → ℕ → Bool
 holdsOne z p k = not (eqb (lowestFrom (λ m. isHeld k (p .whose m)) 1 (z .messages)) 0)
 
+-- task k is SPTR of a message on the timer
+abbrev pub isAwaited : Size → Plain → ℕ → Bool
+isAwaited z p k = not (each (λ m. not (isTimed (p .whose m) && eqb (p .blocks m .sptr) k)) (z .messages))
+
 -- ---- effects, as document 01 has them
 -- Place m at r: recorded with the queue type it has; then bit 0 is set, and r wakes if it waited for a message
 abbrev pub place : Plain → ℕ → ℕ → Plain
 place p m r =
     let u = p .blocks m in
     let e : Entry = record { id = m; at = r; number = number (u .prio); fifo = fifo (u .prio); time = p .clock } in
-    let q = withWhose (withPlacements (tick p) (p .placements ++ (e ∷ []))) m (Queued r) in
+    let q = withWhose (withPlacements (later p) (p .placements ++ (e ∷ []))) m (Queued r) in
     let w = withBlock q m (record { stat = u .stat; prio = withFifo (u .prio); rptr = u .rptr; sptr = u .sptr }) in
     cond (has (p .sheets r .stat) WAIT) (sets (clears w r WAIT) r MHBS) w
 
@@ -181,7 +197,7 @@ cancelMessage p c m r = let q = take p c m in
 abbrev pub install : Plain → ℕ → ℕ → ℕ → ℕ → ℕ → Plain
 install p k s prio sptr name =
     let e : Entry = record { id = k; at = 0; number = number prio; fifo = true; time = p .clock } in
-    withSheet (withInstalls (tick p) (p .installs ++ (e ∷ []))) k (record { stat = stored s; prio = prio; sptr = sptr; name = name })
+    withSheet (withInstalls (later p) (p .installs ++ (e ∷ []))) k (record { stat = stored s; prio = prio; sptr = sptr; name = name })
 
 abbrev pub cancelTask : Plain → ℕ → Plain
 cancelTask p k = withSheet (withInstalls p (keep (λ e. not (eqb (e .id) k)) (p .installs))) k noSheet
@@ -221,7 +237,7 @@ abbrev pub no8 : Size → Plain → ℕ → Test
 no8 z p k = test NotInstallable (outside (z .tasks) k || present p k)
 
 abbrev pub no10 : Size → Plain → ℕ → Test
-no10 z p k = test TaskBusy (not (eqb (first p k) 0) || holdsOne z p k || has (p .sheets k .stat) IWAT)
+no10 z p k = test TaskBusy (not (eqb (first p k) 0) || holdsOne z p k || has (p .sheets k .stat) IWAT || isAwaited z p k)
 
 abbrev pub no11 : Size → Plain → Test
 no11 z p = test NoneFree (eqb (lowestFree z p) 0)
