@@ -73,13 +73,13 @@ abbrev pub Entered : Board → List Entry → Type 0
 Entered b es = Once (used es) × ((m : ℕ) → In m (used es) → place b m ≡ OnTimer)
 
 -- what the entry e makes of the board b: its message goes back if it is due, and all others stay
-record Turn (z : Size) (at : ℕ) (order : List ℕ) (e : Entry) (b : Board) (queues : ℕ → List ℕ) : Type 0 where
-  settled : Settled z (returned z at (e ∷ []) b) order (dueQueues z at (e ∷ []) b queues)
-  back : isDue at e ≡ true → place (returned z at (e ∷ []) b) (e .message) ≡ QueuedAt (taskNo (message b (e .message) .sptr))
-  others : (m : ℕ) → (e .message ≡ m → isDue at e ≡ false) → Stays b (returned z at (e ∷ []) b) m
+pub record Turn (z : Size) (at : ℕ) (order : List ℕ) (e : Entry) (b : Board) (queues : ℕ → List ℕ) : Type 0 where
+  pub settled : Settled z (returned z at (e ∷ []) b) order (dueQueues z at (e ∷ []) b queues)
+  pub back : isDue at e ≡ true → place (returned z at (e ∷ []) b) (e .message) ≡ QueuedAt (taskNo (message b (e .message) .sptr))
+  pub others : (m : ℕ) → (e .message ≡ m → isDue at e ≡ false) → Stays b (returned z at (e ∷ []) b) m
 
 module _ (z : Size) (at : ℕ) (order : List ℕ) (sizes : Sizes z) where
-  turn : (e : Entry) (es : List Entry) (b : Board) (queues : ℕ → List ℕ) → Settled z b order queues → Entered b (e ∷ es)
+  pub turn : (e : Entry) (es : List Entry) (b : Board) (queues : ℕ → List ℕ) → Settled z b order queues → Entered b (e ∷ es)
       → Turn z at order e b queues
   turn e es b queues s h = step (isDue at e) refl
     where
@@ -97,7 +97,7 @@ module _ (z : Size) (at : ℕ) (order : List ℕ) (sizes : Sizes z) where
       }
 
   -- the messages of the entries behind it are still on the timer
-  entered-rest : (e : Entry) (es : List Entry) (b : Board) (queues : ℕ → List ℕ) → Turn z at order e b queues → Entered b (e ∷ es)
+  pub entered-rest : (e : Entry) (es : List Entry) (b : Board) (queues : ℕ → List ℕ) → Turn z at order e b queues → Entered b (e ∷ es)
       → Entered (returned z at (e ∷ []) b) es
   entered-rest e es b queues t (once, on) =
       (once-rest e es once, λ m i. t .others m (rest-undue at e es once m i) .0 ∙ on m (used-later e es m i))
