@@ -13,8 +13,6 @@ pub mod Placed
 pub mod Taken
 pub mod Calls
 pub mod Dispatch
+pub mod Timers
 pub mod Steps
 pub mod Fresh
-pub mod Theorems
-pub mod Coded
-mod Cases

@@ -31,7 +31,7 @@ use Rattle.history.proofs.Same.{Same, same-at, held-apart}
 
 -- ---- placed
 -- a message that stands nowhere goes into the queue of r
-place-same : (z : Size) (b : Board) (q : List ℕ) (f : ℕ → List ℕ) (l s : List Entry) (n : ℕ)
+pub place-same : (z : Size) (b : Board) (q : List ℕ) (f : ℕ → List ℕ) (l s : List Entry) (n : ℕ)
     → Named z (plainOf b l s n) q f → (m r : ℕ) → ((x : Entry) → In x s → x .id ≢ m) → Numbered (z .tasks) r
     → Numbered (length (b .tasks)) r → Numbered (length (b .messages)) m → Numbered (length (b .places)) m
     → Same z (placeAt z b m r) q (queuesAfter b f (IntoQueue m (message b m .prio) r)) (plain.place (plainOf b l s n) m r)

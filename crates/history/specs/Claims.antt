@@ -3,15 +3,18 @@
 --   LinksRank next x l   the links from x are exactly the ranking of the entries l, and then 0
 --   Agrees z l p         the bytes l and the plain machine p agree: the board passes, the links from byte 0 and from each MPTR are the
 --                        rankings, every other field is the machine's, and byte 1 is the machine's running task
---   plainRun z p calls   the machine after these calls, and its answers
---   LinksAgree           whatever calls are made from the fresh board, all answers agree, one by one, and afterwards the bytes agree
---   CodeAgrees           so it is with every program that meets the contracts of fresh and of the step (Rattle.station, src/lib.rt)
+--   plainRun z x events  the machine after these events, and its answers
+--   zeros                a timer buffer of zeros
+--   LinksAgree           whatever calls, starts and ticks are made from the fresh board and a buffer of zeros, all answers agree, one by one,
+--                        and afterwards the bytes agree, and the buffer is the machine's
+--   CodeAgrees           so it is with every program that meets the contracts of fresh, of the step, of start and of tick (Rattle.station,
+--                        src/lib.rt): fresh is lent no buffer, so whoever makes the board zeroes it
 -- Assumes nothing.
 use mathlib.Core.Path.{_≡_}
 use mathlib.Core.Bool.{true}
 use mathlib.Core.List.{List, [], _∷_}
 use Prim.Native.Nat.{ℕ}
-use lib.ListN.{length}
+use lib.ListN.{length, replicate}
 use lib.Dec.{eqb}
 use Rattle.links.specs.Chain.{Chain}
 use Rattle.board.specs.declared.numbers.Size.{Size}
@@ -21,16 +24,15 @@ use Rattle.board.specs.declared.places.Place.{Place}
 use Rattle.board.specs.declared.places.Place.the-variants as places
 use Rattle.board.specs.Numbers.{small, Numbered}
 use Rattle.board.specs.Board.{boardOf, total, task, message, place}
-use Rattle.paper.specs.declared.call.Call.{Call}
 use Rattle.paper.specs.declared.answer.Answer.{Answer}
 use Rattle.paper.specs.Rules.{nextTask, nextMessage, passes}
 use Rattle.paper.specs.Outcomes.{blank, Ends, fresh}
-use Rattle.paper.specs.History as bytes
-use Rattle.paper.specs.History.{Made}
-use Rattle.kept.specs.Settled.{AllFit}
-use Rattle.kept.specs.Claims.{Sizes}
+use Rattle.timer.specs.Timer.{timerLength, timerBytes}
+use Rattle.timing.specs.Events.{Event, runAll, Happened}
+use Rattle.ticked.specs.Claims.{TimerSizes, AllEventsFit}
 use Rattle.history.specs.Ranking.{Entry, keep, Ranking, DifferentTimes, Names}
-use Rattle.history.specs.Machine.{Sheet, Block, Whose, Free, Held, Queued, Timed, Plain, start, step}
+use Rattle.history.specs.Machine.{Sheet, Block, Whose, Free, Held, Queued, Timed, Plain}
+use Rattle.history.specs.Clockwork.{Clocked, begin, happens}
 
 -- ---- the ranking is one
 pub record Ranked (l : List Entry) : Type 0 where
@@ -74,24 +76,28 @@ pub record Agrees (z : Size) (l : List ℕ) (p : Plain) : Type 0 where
 -- ---- histories
 pub record PlainRan : Type 0 where
   pub answers : List Answer
-  pub plain : Plain
+  pub machine : Clocked
 
-abbrev pub plainRun : Size → Plain → List Call → PlainRan
-plainRun z p [] = record { answers = []; plain = p }
-plainRun z p (call ∷ calls) =
-    let o = step z p call in
-    let rest = plainRun z (o .plain) calls in
-    record { answers = o .answer ∷ rest .answers; plain = rest .plain }
+abbrev pub plainRun : Size → Clocked → List Event → PlainRan
+plainRun z x [] = record { answers = []; machine = x }
+plainRun z x (event ∷ events) =
+    let o = happens z x event in
+    let rest = plainRun z (o .machine) events in
+    record { answers = o .answer ∷ rest .answers; machine = rest .machine }
+
+abbrev pub zeros : List ℕ
+zeros = replicate timerLength 0
 
 abbrev pub LinksAgree : Type 0
 LinksAgree =
-    (z : Size) → Sizes z → (calls : List Call) → AllFit calls
-    → (bytes.run z (blank z) calls .answers ≡ plainRun z start calls .answers)
-    × Agrees z (bytes.run z (blank z) calls .after) (plainRun z start calls .plain)
+    (z : Size) → TimerSizes z → (events : List Event) → AllEventsFit events
+    → let r = runAll z (blank z) zeros events in let q = plainRun z begin events in
+    (r .answers ≡ q .answers) × Agrees z (r .board) (q .machine .plain) × (r .timer ≡ timerBytes (q .machine .timer))
 
 -- ---- the same of code
 abbrev pub CodeAgrees : Type 0
 CodeAgrees =
-    (lent l d : List ℕ) (a : Answer) (calls : List Call) (answers : List Answer)
-    → length lent ≡ total small → Ends a l (fresh small lent) → AllFit calls → Made l calls answers d
-    → (answers ≡ plainRun small start calls .answers) × Agrees small d (plainRun small start calls .plain)
+    (lent l d t : List ℕ) (a : Answer) (events : List Event) (answers : List Answer)
+    → length lent ≡ total small → Ends a l (fresh small lent) → AllEventsFit events → Happened l zeros events answers d t
+    → let q = plainRun small begin events in
+    (answers ≡ q .answers) × Agrees small d (q .machine .plain) × (t ≡ timerBytes (q .machine .timer))

@@ -1,3 +1,4 @@
 pub mod Ranking
 pub mod Machine
+pub mod Clockwork
 pub mod Claims
