@@ -1,14 +1,16 @@
 /* The station's board: tasks, message blocks and queues in 1,476 bytes that the caller lends. Byte 0 of them names the first task
- * of the task queue, and byte 1 the running task, 0 if none. For C11 and C++.
+ * of the task queue, and byte 1 the running task, 0 if none. Beside it, for messages that come back later, the station timer: 50
+ * bytes more. For C11 and C++.
  *
  * Link with target/staticlib/libstation.a, which `rt staticlib station` writes; of the C library it needs memset alone. No
- * function keeps anything between calls, allocates, or touches a byte outside the lent ones. A board's pointer must have as
- * many bytes behind it as its length says; with length 0 it may be any, NULL too. All else is safe to hand over, any bytes and
- * any arguments: what cannot be done is refused with a number and changes nothing. One writer at a time is the caller's
- * business.
+ * function keeps anything between calls, allocates, or touches a byte outside the lent ones. A pointer must have as many bytes
+ * behind it as its length says; with length 0 it may be any, NULL too. The board and the timer of one call do not overlap. All
+ * else is safe to hand over, any bytes and any arguments: what cannot be done is refused with a number and changes nothing. One
+ * writer at a time is the caller's business.
  *
  * Tasks are numbered 1 to 32 and messages 1 to 128; 0 is none. Names in capitals (STAT, PRIO, RPTR ..) are the fields of the
- * MITE-80 manual, 3.2 and 3.3; examples/c/shore_station.c is a small program with them. */
+ * MITE-80 manual, 3.2 and 3.3. Small programs with all this: examples/c/shore_station.c, and examples/c/watchdog.c for the
+ * timer. */
 #ifndef STATION_H
 #define STATION_H
 
@@ -18,6 +20,8 @@
 #define STATION_BYTES 1476 /* of a board */
 #define STATION_TASKS 32
 #define STATION_MESSAGES 128
+#define STATION_TIMER_BYTES 50 /* of the timer buffer */
+#define STATION_TIMERS 16
 
 #ifdef __cplusplus
 extern "C" {
@@ -28,6 +32,8 @@ uint64_t station_fresh(uint8_t *board, size_t len);
 uint64_t station_check(const uint8_t *board, size_t len);
 uint64_t station_convert(uint8_t *board, size_t len);
 uint64_t station_call(uint8_t *board, size_t len, uint8_t kind, uint16_t a, uint16_t b, uint16_t c, uint8_t stat, uint8_t prio);
+uint64_t station_start(uint8_t *board, size_t len, uint8_t *timer, size_t timer_len, uint16_t m, uint16_t delay);
+uint64_t station_tick(uint8_t *board, size_t len, uint8_t *timer, size_t timer_len);
 
 /* ---- bits of a task's STAT */
 enum {
@@ -40,7 +46,7 @@ enum {
     STATION_TCBB = 0x01 /* the record is in use */
 };
 
-/* ---- why a call was refused; the lowest that applies is given */
+/* ---- why a call was refused; the lowest that applies is given, but BAD_TIMER comes right behind RULE_BROKEN */
 enum {
     STATION_ACCEPTED = 0,
     STATION_WRONG_LENGTH = 1, /* the board isn't 1,476 bytes */
@@ -52,12 +58,15 @@ enum {
     STATION_BAD_PRIORITY = 7, /* the message's is 127; on install PRIO is even, 01H or FFH */
     STATION_NOT_INSTALLABLE = 8, /* no such number, or in use */
     STATION_BAD_STATUS = 9, /* install takes TCBB, DEBUG and MROB alone, and needs TCBB */
-    STATION_TASK_BUSY = 10, /* it holds or is sent a message, or waits for an interrupt */
+    STATION_TASK_BUSY = 10, /* it holds or is sent a message, a timer will return one to it, or it waits for an interrupt */
     STATION_NONE_FREE = 11,
     STATION_NOT_QUEUED = 12, /* the message isn't in that task's queue */
     STATION_NOT_ITS_SENDER = 13,
     STATION_BAD_SENDER = 14, /* SPTR is above 32 */
     STATION_NOTHING_TO_DELIVER = 15, /* proved never to be given */
+    STATION_NO_DELAY = 16, /* a delay is 1 to 65,535 ticks */
+    STATION_NO_TIMER_FREE = 17, /* all sixteen are in use */
+    STATION_BAD_TIMER = 18, /* the timer isn't 50 bytes, or not those that go with this board */
     STATION_NO_CALL = 255 /* station_call with a kind that is no call */
 };
 
@@ -102,12 +111,15 @@ static inline const char *station_reason(uint8_t refusal)
     case STATION_BAD_PRIORITY: return "the priority can't be used here";
     case STATION_NOT_INSTALLABLE: return "no task of that number, or it is in use";
     case STATION_BAD_STATUS: return "a task can't be installed with that status";
-    case STATION_TASK_BUSY: return "the task has a message or waits for an interrupt";
+    case STATION_TASK_BUSY: return "the task has a message or is to have one from a timer, or waits for an interrupt";
     case STATION_NONE_FREE: return "no message is free";
     case STATION_NOT_QUEUED: return "the message isn't in that task's queue";
     case STATION_NOT_ITS_SENDER: return "the running task isn't the message's sender";
     case STATION_BAD_SENDER: return "the sender is no task number";
     case STATION_NOTHING_TO_DELIVER: return "there is nothing to deliver";
+    case STATION_NO_DELAY: return "a delay of no ticks";
+    case STATION_NO_TIMER_FREE: return "no timer is free";
+    case STATION_BAD_TIMER: return "the timer isn't 50 bytes, or doesn't go with the board";
     case STATION_NO_CALL: return "no call is of that kind";
     default: return "no refusal has that number";
     }
@@ -206,7 +218,7 @@ static inline station_answer station_find(uint8_t *board, size_t len, uint16_t n
 }
 
 /* 4 Cancel task (M8CAN at the task queue): task k is gone; it may be the running one. It must have no message, queued or held,
- * and not wait for an interrupt. Refused: NO_SUCH_TASK, TASK_BUSY. */
+ * be SPTR of none that is on a timer, and not wait for an interrupt. Refused: NO_SUCH_TASK, TASK_BUSY. */
 static inline station_answer station_cancel_task(uint8_t *board, size_t len, uint16_t k)
 {
     return station_ask(board, len, 4, k, 0, 0, 0, 0);
@@ -219,7 +231,8 @@ static inline station_answer station_claim(uint8_t *board, size_t len)
 }
 
 /* 6 Prepare: message m, which it holds, gets these fields. STAT is any byte, PRIO as station_fifo or station_lifo gives; SPTR
- * is the task that a return goes to, 0 for whoever sends it. Refused: NO_SUCH_MESSAGE, NOT_HELD, BAD_SENDER. */
+ * is the task that a return goes to, and a message from the timer; 0 for whoever sends it. Refused: NO_SUCH_MESSAGE, NOT_HELD,
+ * BAD_SENDER. */
 static inline station_answer station_prepare(uint8_t *board, size_t len, uint16_t m, uint8_t stat, uint8_t prio, uint16_t sptr)
 {
     return station_ask(board, len, 6, m, sptr, 0, stat, prio);
@@ -308,6 +321,43 @@ static inline station_answer station_cancel_message(uint8_t *board, size_t len, 
 static inline station_answer station_wait_for_interrupt(uint8_t *board, size_t len)
 {
     return station_ask(board, len, 19, 0, 0, 0, 0, 0);
+}
+
+/* ---- the station timer, after the manual's section 9: a message that goes back to its sender later.
+ *
+ * The timer is a buffer of 50 bytes beside the board: the tick that it is now, a word, and behind it sixteen entries of three
+ * bytes: a message, and the tick at which it is due, a word. The low byte of a word comes first, and a free entry is three zero
+ * bytes. Whoever makes the board fresh makes the timer all zeros as well: station_make_fresh does not. From then on this one
+ * buffer is lent to every start and every tick and written by nobody else, and where the board is saved, it is saved too.
+ *
+ * A tick is 12.8 ms. Nothing here measures time: the caller makes one call of station_pass_tick every 12.8 ms, and no other call
+ * lets time pass. The count runs on past 65,535 to 0.
+ *
+ * A message on a timer has place 128. Nobody holds it, no queue has it, and it is not free: calls that take a held message are
+ * refused with NOT_HELD, and cancel message with NOT_QUEUED. So nothing stops a timer: the message comes back when it is due, and
+ * its receiver looks then whether that still matters. Until then its SPTR task can't be cancelled (TASK_BUSY). By rule 4 such a
+ * message has LINK 0, a present SPTR and a priority below 127; the other functions judge it by that alone, without the buffer.
+ *
+ * Both calls are refused with WRONG_LENGTH and RULE_BROKEN as the others are, and next, before NOBODY_RUNS and all the rest, with
+ * BAD_TIMER: the buffer isn't 50 bytes, a free entry isn't zero, or the messages of place 128 are not exactly those in entries,
+ * once each. A refusal changes neither the board nor the timer. The value is 0. */
+
+/* Start: message m, which the running task holds, goes on the free timer of the lowest number and is due after so many ticks, 1
+ * to 65,535 (12.8 ms to 838.8 s). The first of them may be moments away: for a time that is not to be shorter, add one. The
+ * record stays as it is; SPTR must be a task that is there, and the priority can't be 127. Refused: NOBODY_RUNS,
+ * NO_SUCH_MESSAGE, NOT_HELD, NO_SUCH_TASK, BAD_PRIORITY, NO_DELAY, NO_TIMER_FREE. */
+static inline station_answer station_start_timer(uint8_t *board, size_t len, uint8_t *timer, size_t timer_len, uint16_t m,
+                                                 uint16_t delay)
+{
+    return station_unpack(station_start(board, len, timer, timer_len, m, delay));
+}
+
+/* Tick: it is one tick later. Each message that is due now goes into the queue of its SPTR task, as by a return, in the order of
+ * the entries, which are free then. Behind them all it is asked who runs, so what that task is handed is the first of its queue,
+ * and need not be of the first entry. It serves anyone, also where nobody runs. */
+static inline station_answer station_pass_tick(uint8_t *board, size_t len, uint8_t *timer, size_t timer_len)
+{
+    return station_unpack(station_tick(board, len, timer, timer_len));
 }
 
 #ifdef __cplusplus
