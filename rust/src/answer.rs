@@ -35,7 +35,7 @@ pub(crate) fn unpack(word: u64) -> Answer<u16> {
         // 255 is for a kind that is no call, and no method asks one
         number => {
             let [_, rule, record, ..] = word.to_le_bytes();
-            Err(Refusal::from_numbers(number, rule, record.into()).expect("the library refuses with 1 to 15, and 2 has a rule"))
+            Err(Refusal::from_numbers(number, rule, record.into()).expect("the library refuses with 1 to 18, and 2 has a rule"))
         }
     }
 }
@@ -43,7 +43,7 @@ pub(crate) fn unpack(word: u64) -> Answer<u16> {
 /// Defines the refusals once: number, name, what comes with it, words.
 macro_rules! refusals {
     ($($number:literal $name:ident $(($with:ident))? $words:literal)*) => {
-        /// Why a call is refused. If several reasons apply, the one of the lowest number is given.
+        /// Why a call is refused. If several reasons apply, the one of the lowest number is given, but 18 comes right behind 2.
         #[derive(Clone, Copy, Debug, PartialEq, Eq, PartialOrd, Ord, Hash)]
         pub enum Refusal {
             $(#[doc = $words] $name $(($with))?,)*
@@ -59,7 +59,7 @@ macro_rules! refusals {
                 }
             }
 
-            /// Its number, 1 to 15.
+            /// Its number, 1 to 18.
             pub const fn number(self) -> u8 {
                 match self {
                     $(Refusal::$name { .. } => $number,)*
@@ -85,12 +85,15 @@ refusals! {
     7 BadPriority "the priority can't be used here"
     8 NotInstallable "no task of that number, or it is in use"
     9 BadStatus "a task can't be installed with that status"
-    10 TaskBusy "the task has a message or waits for an interrupt"
+    10 TaskBusy "the task has a message or is to have one from a timer, or waits for an interrupt"
     11 NoneFree "no message is free"
     12 NotQueued "the message isn't in that task's queue"
     13 NotItsSender "the running task isn't the message's sender"
     14 BadSender "the sender is no task number"
     15 NothingToDeliver "there is nothing to deliver; proved never to be given"
+    16 NoDelay "a delay of no ticks"
+    17 NoTimerFree "no timer is free"
+    18 BadTimer "the timer isn't 50 bytes, or doesn't go with the board"
 }
 
 /// The words and the number; then the rule that is broken, if it is one.

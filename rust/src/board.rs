@@ -1,7 +1,7 @@
 //! The board and its calls.
 use crate::answer::{unpack, Answer, Refusal};
 use crate::numbers::{MsgNo, Prio, Status, TaskNo};
-use crate::{sys, BYTES};
+use crate::{sys, Timer, BYTES};
 use core::fmt;
 
 /// A board: its own 1,476 bytes, or with [`lent`](Board::lent) any bytes that are lent, of any length and content.
@@ -9,10 +9,10 @@ use core::fmt;
 /// # The calls
 ///
 /// 'It' is the running task, which byte 1 of the board names. [`install`](Board::install),
-/// [`post_interrupt`](Board::post_interrupt) and [`find`](Board::find) serve anyone. The others act for the running task and are
-/// refused with [`NobodyRuns`](Refusal::NobodyRuns) where there is none (byte 1 is 0). All are refused with
-/// [`WrongLength`](Refusal::WrongLength) and [`RuleBroken`](Refusal::RuleBroken) where the bytes are no board. Each call names
-/// the refusals that it can give besides.
+/// [`post_interrupt`](Board::post_interrupt), [`find`](Board::find) and [`tick`](Board::tick) serve anyone. The others act for
+/// the running task and are refused with [`NobodyRuns`](Refusal::NobodyRuns) where there is none (byte 1 is 0). All are refused
+/// with [`WrongLength`](Refusal::WrongLength) and [`RuleBroken`](Refusal::RuleBroken) where the bytes are no board. Each call
+/// names the refusals that it can give besides.
 ///
 /// After each accepted call [`Accepted`](crate::Accepted) tells the task that runs now. It is the same as before while it is
 /// there, waits for nothing, and no other such task has a smaller priority number: an equal does not push it aside. Else it is
@@ -87,9 +87,10 @@ impl<B: AsRef<[u8]>> fmt::Debug for Board<B> {
     }
 }
 
-/// The calls in document 01's order, with its argument names.
+/// The calls in document 01's order, with its argument names; behind them start and tick.
 impl<B: AsMut<[u8]>> Board<B> {
-    /// Makes the board fresh: all zeros, whatever it held.
+    /// Makes the board fresh: all zeros, whatever it held. The timer stays as it is: whoever calls this makes a new [`Timer`]
+    /// too.
     ///
     /// # Errors
     /// [`WrongLength`](Refusal::WrongLength)
@@ -132,7 +133,8 @@ impl<B: AsMut<[u8]>> Board<B> {
         Ok(self.ask_words(3, name, 0)?.with(TaskNo::some))
     }
 
-    /// Task `k` is gone; it may be the running one. It must have no message, queued or held, and not wait for an interrupt.
+    /// Task `k` is gone; it may be the running one. It must have no message, queued or held, be SPTR of none that is on a timer,
+    /// and not wait for an interrupt.
     ///
     /// # Errors
     /// [`NoSuchTask`](Refusal::NoSuchTask), [`TaskBusy`](Refusal::TaskBusy)
@@ -148,8 +150,8 @@ impl<B: AsMut<[u8]>> Board<B> {
         Ok(self.ask_words(5, 0, 0)?.with(MsgNo))
     }
 
-    /// Message `m`, which it holds, gets these fields. `stat` is any byte; `sptr` is the task that a return goes to, none for
-    /// whoever sends it.
+    /// Message `m`, which it holds, gets these fields. `stat` is any byte; `sptr` is the task that a return goes to, and a
+    /// message from the timer; none for whoever sends it.
     ///
     /// # Errors
     /// [`NoSuchMessage`](Refusal::NoSuchMessage), [`NotHeld`](Refusal::NotHeld), [`BadSender`](Refusal::BadSender)
@@ -268,6 +270,28 @@ impl<B: AsMut<[u8]>> Board<B> {
     /// None of its own.
     pub fn wait_for_interrupt(&mut self) -> Answer {
         done(self.ask_words(19, 0, 0))
+    }
+
+    /// Message `m`, which it holds, goes on the free timer of the lowest number and is due after `delay` ticks, 1 to 65,535 (12.8
+    /// ms to 838.8 s). The first of them may be moments away: for a time that is not to be shorter, add one. The record stays as
+    /// it is; SPTR must be a task that is there, and the priority can't be 127. See [`Timer`].
+    ///
+    /// # Errors
+    /// [`BadTimer`](Refusal::BadTimer), before [`NobodyRuns`](Refusal::NobodyRuns) and all the rest;
+    /// [`NoSuchMessage`](Refusal::NoSuchMessage), [`NotHeld`](Refusal::NotHeld), [`NoSuchTask`](Refusal::NoSuchTask),
+    /// [`BadPriority`](Refusal::BadPriority), [`NoDelay`](Refusal::NoDelay), [`NoTimerFree`](Refusal::NoTimerFree)
+    pub fn start<T: AsMut<[u8]>>(&mut self, timer: &mut Timer<T>, m: MsgNo, delay: u16) -> Answer {
+        done(unpack(sys::start(self.0.as_mut(), timer.as_bytes_mut(), m.0, delay)))
+    }
+
+    /// It is one tick later. Each message that is due now goes into the queue of its SPTR task, as by a return, in the order of
+    /// the timer's entries, which are free then. Behind them all it is asked who runs, so what that task is handed is the first
+    /// of its queue, and need not be of the first entry. It serves anyone, also where nobody runs.
+    ///
+    /// # Errors
+    /// [`BadTimer`](Refusal::BadTimer)
+    pub fn tick<T: AsMut<[u8]>>(&mut self, timer: &mut Timer<T>) -> Answer {
+        done(unpack(sys::tick(self.0.as_mut(), timer.as_bytes_mut())))
     }
 
     /// A call without STAT and PRIO.

@@ -1,11 +1,13 @@
-//! The station's board: tasks, message blocks and queues in 1,476 bytes, and the nineteen calls on it.
+//! The station's board: tasks, message blocks and queues in 1,476 bytes, and the nineteen calls on it; and beside it the station
+//! timer, for messages that come back later.
 //!
 //! The work is done by the library `station`, which is proved to do exactly what document 01 says: each call, on any bytes and
-//! any arguments, ends with an answer and touches nothing but the board. This crate gives its calls their types.
+//! any arguments, ends with an answer and touches nothing but the board, and start and tick the timer. This crate gives its calls
+//! their types.
 //!
-//! A [`Board`] is owned, or lent from a longer buffer of any length without a copy ([`Board::lent`]). One that was saved when
-//! byte 1 was always zero goes through [`Board::convert`] first. Names in capitals are the fields of the MITE-80 manual, 3.2 and
-//! 3.3.
+//! A [`Board`] is owned, or lent from a longer buffer of any length without a copy ([`Board::lent`]), and so is a [`Timer`]. A
+//! board that was saved when byte 1 was always zero goes through [`Board::convert`] first. Names in capitals are the fields of
+//! the MITE-80 manual, 3.2 and 3.3.
 //!
 //! To use it, name this folder as a path dependency and build the library first: `rt staticlib station` at the top of the
 //! repository writes it for x86-64, and `tests/libraries` compiles it for another processor. If it lies elsewhere,
@@ -58,11 +60,13 @@ mod numbers;
 mod rule;
 #[allow(unsafe_code)]
 mod sys;
+mod timer;
 
 pub use answer::{Accepted, Answer, Refusal};
 pub use board::Board;
 pub use numbers::{MsgNo, Prio, Status, TaskNo};
 pub use rule::Rule;
+pub use timer::Timer;
 
 /// The bytes of a board.
 pub const BYTES: usize = 1476;
@@ -70,3 +74,7 @@ pub const BYTES: usize = 1476;
 pub const TASKS: u16 = 32;
 /// Messages are numbered 1 to this.
 pub const MESSAGES: u16 = 128;
+/// The bytes of a timer.
+pub const TIMER_BYTES: usize = 50;
+/// So many messages can be on the timer at once.
+pub const TIMERS: usize = 16;

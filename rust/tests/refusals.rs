@@ -1,4 +1,4 @@
-//! Each refusal that can be given, and that it changes nothing.
+//! Each refusal that can be given by the nineteen calls, and that it changes nothing; those of the timer are in timer.rs.
 mod common;
 use common::{tasks, written};
 use station::{Board, MsgNo, Prio, Refusal, Rule, Status, TaskNo};
@@ -182,10 +182,10 @@ fn an_old_board_is_refused_by_its_own_rules() {
 
 #[test]
 fn numbers_and_words() {
-    for number in 1..=15 {
+    for number in 1..=18 {
         assert_eq!(Refusal::from_numbers(number, 4, 128).map(Refusal::number), Some(number));
     }
-    assert_eq!([0, 16, 255].map(|number| Refusal::from_numbers(number, 4, 128)), [None; 3]);
+    assert_eq!([0, 19, 255].map(|number| Refusal::from_numbers(number, 4, 128)), [None; 3]);
     assert_eq!(Refusal::from_numbers(2, 4, 128), Some(RuleBroken(Rule::R4(MsgNo(128)))));
     assert_eq!(Refusal::from_numbers(2, 4, 129), None);
     assert_eq!(NoSuchTask.to_string(), "there is no such task (refusal 6)");

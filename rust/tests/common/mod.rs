@@ -1,6 +1,6 @@
 //! What the tests share.
 #![allow(dead_code)] // no test uses all of it
-use station::{Board, MsgNo, Prio, Refusal, Status, TaskNo};
+use station::{Board, MsgNo, Prio, Refusal, Status, TaskNo, Timer};
 
 /// A board with tasks 1, 2 .. of these priorities; the rest of each record is 0.
 pub fn tasks(priorities: &[u8]) -> Board {
@@ -31,8 +31,8 @@ pub fn status_of(board: &Board, k: TaskNo) -> Status {
 /// A call that tells only whether it was accepted, on a board in lent bytes.
 pub type Tried = fn(&mut Board<&mut [u8]>) -> Result<(), Refusal>;
 
-/// Making fresh, checking, converting and each of the nineteen calls, with arguments that could do.
-pub const EVERY_CALL: [Tried; 22] = [
+/// Making fresh, checking, converting, each of the nineteen calls, start and tick, with arguments that could do.
+pub const EVERY_CALL: [Tried; 24] = [
     |b| b.make_fresh().map(drop),
     |b| b.check().map(drop),
     |b| b.convert().map(drop),
@@ -55,4 +55,6 @@ pub const EVERY_CALL: [Tried; 22] = [
     |b| b.receive_and_wait().map(drop),
     |b| b.cancel_message(MsgNo(1), TaskNo(1)).map(drop),
     |b| b.wait_for_interrupt().map(drop),
+    |b| b.start(&mut Timer::new(), MsgNo(1), 1).map(drop),
+    |b| b.tick(&mut Timer::new()).map(drop),
 ];
