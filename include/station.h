@@ -172,8 +172,8 @@ static inline station_answer station_look(const uint8_t *board, size_t len)
 
 /* Converts an old board, saved when byte 1 was zero and the first ready task in queue order ran: byte 1 names that task from now
  * on, and nothing else changes. Tells who runs. Refused: WRONG_LENGTH, and RULE_BROKEN by the rules of then: 1 was of bytes 1 to
- * 3, so a board with a running task is converted once only; 7 was of that task, which must not be due a message, and its record
- * is its number. */
+ * 3, so a board with a running task is converted once only; 4 knew no timer; 7 was of that task, which must not be due a message,
+ * and its record is its number. */
 static inline station_answer station_convert_old(uint8_t *board, size_t len)
 {
     return station_unpack(station_convert(board, len));

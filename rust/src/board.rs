@@ -103,7 +103,7 @@ impl<B: AsMut<[u8]>> Board<B> {
     ///
     /// # Errors
     /// [`WrongLength`](Refusal::WrongLength), and [`RuleBroken`](Refusal::RuleBroken) by the rules of then: R1 was of bytes 1 to
-    /// 3, and R7 of that task, which must not be due a message.
+    /// 3, R4 knew no timer, and R7 was of that task, which must not be due a message.
     pub fn convert(&mut self) -> Answer {
         done(unpack(sys::convert(self.0.as_mut())))
     }

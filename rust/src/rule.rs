@@ -5,7 +5,7 @@ use core::fmt;
 /// A rule that a board breaks, with the task or message that breaks it. If several are broken, it is the lowest rule, and of its
 /// tasks or messages the smallest. R6 is judged on boards that keep R1 to R5, and R7 on boards that keep all others.
 ///
-/// [`Board::convert`](crate::Board::convert) judges an old board, whose R1 and R7 were others.
+/// [`Board::convert`](crate::Board::convert) judges an old board, whose R1, R4 and R7 were others.
 #[derive(Clone, Copy, Debug, PartialEq, Eq, PartialOrd, Ord, Hash)]
 pub enum Rule {
     /// bytes 2 and 3 are not zero; of an old board, bytes 1 to 3
