@@ -9,7 +9,7 @@ use Prim.Native.Nat.{ℕ, zero, suc, _+_, _-_, _*_, _/_, _%_, _≤_, _<_}
 use native.Mathlib.Nat.{mul-suc, mul-zero, mod-eq-of-lt}
 use native.Mathlib.Omega.{arith}
 use borrow.Author.Tests.{eq-eqb, ne-eqb, eqb-true, eqb-false}
-use lib.Dec.{eqb}
+use lib.Dec.{eqb, lit<}
 use lib.ListN.{length, getD, set, take, drop, take-append-drop, length-append, length-drop, length-map, drop-of-length-le}
 use lib.Seq.{sets, drop-drop, drop-cons, take-add, take-all, take-at, drop-at, length-take-le}
 use Rattle.board.specs.declared.numbers.Size.{Size}
@@ -20,10 +20,12 @@ use Rattle.board.specs.declared.places.Place.the-variants.{Free, HeldBy,
 use Rattle.board.specs.Numbers.{outside, taskNo}
 use Rattle.board.specs.Records.{Byte, Word, wordAt, wordBytes, taskOf, taskBytes, messageOf, messageBytes}
 use Rattle.board.specs.Places.{placeOf, placeByte, placeIn, placeBytes}
-use Rattle.board.specs.Board.{Area, total, taskArea, messageArea, placeArea, cut, join, pieces, boardOf, bytesOf}
+use Rattle.board.specs.Board.{Area, total, taskArea, messageArea, placeArea, cut, join, pieces, nth, boardOf, bytesOf}
 use Rattle.board.specs.Writes.{start, putIn}
 use Rattle.board.specs.Claims.{WritingBackChangesNothing}
+use Rattle.board.proofs.Numbered.{nth-map}
 use Rattle.board.proofs.Pieces.{length-pieces, outside-within, within-outside, outside-above, putIn-outside, putIn-within}
+use Rattle.board.proofs.Pieces.{nth-outside, piece-byte}
 
 -- ---- bytes
 -- every number is a byte
@@ -228,6 +230,22 @@ pub small-records : {A : Type 0} (bytes : A → List ℕ) (none : A) (l : List A
 small-records bytes none [] h = tt
 small-records bytes none (x ∷ l) h =
     small-append (bytes x) (join (map bytes l)) (h 0) (small-records bytes none l (λ i. h (suc i)))
+
+-- read from bytes: what holds of any record of bytes holds of each
+module _ (l : List ℕ) (h : (i : ℕ) → Byte (getD l i 0)) where
+  piece-bytes : (a : Area) (k i : ℕ) → i < a .stride → Byte (getD (nth [] (pieces a l) k) i 0)
+  piece-bytes a k i d = step (outside (a .count) k) refl
+    where
+      step : (t : Bool) → outside (a .count) k ≡ t → Byte (getD (nth [] (pieces a l) k) i 0)
+      step true e =
+          subst (λ (p : List ℕ). Byte (getD p i 0))
+          (sym (nth-outside [] (pieces a l) k (ap (λ (n : ℕ). outside n k) (length-pieces a l) ∙ e))) (lit< tt)
+      step false e = subst Byte (sym (piece-byte a l k i e d)) (h _)
+
+  pub read-holds : {A : Type 0} (P : A → Type 0) (of : List ℕ → A) (none : A) (a : Area) → of [] ≡ none
+      → ((p : List ℕ) → ((i : ℕ) → i < a .stride → Byte (getD p i 0)) → P (of p)) → (k : ℕ) → P (nth none (map of (pieces a l)) k)
+  read-holds P of none a e g k =
+      subst P (sym (nth-map of [] none (pieces a l) k e)) (g (nth [] (pieces a l) k) (piece-bytes a k))
 
 -- ---- the board
 glue : (n o : ℕ) (l : List ℕ) → take n (drop o l) ++ drop (o + n) l ≡ drop o l

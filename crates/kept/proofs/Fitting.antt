@@ -2,7 +2,6 @@
 -- that is read from such bytes fits.
 -- Assumes nothing.
 use mathlib.Core.Path.{_≡_, refl, sym, ap, _∙_, subst}
-use mathlib.Core.Bool.{Bool, true, false}
 use mathlib.Core.List.{List, [], _∷_, _++_, map, append-nil}
 use Prim.Native.Nat.{ℕ, suc, _+_, _-_, _*_, _<_}
 use native.Mathlib.Nat.{mod-eq-of-lt}
@@ -21,12 +20,11 @@ use Rattle.board.specs.declared.places.Place.the-variants.{Free}
 use Rattle.board.specs.Numbers.{outside}
 use Rattle.board.specs.Records.{Byte, Word, wordAt, taskOf, taskBytes, noTask, messageOf, messageBytes, noMessage}
 use Rattle.board.specs.Places.{placeOf, placeByte, placeIn, placeBytes}
-use Rattle.board.specs.Board.{Area, Board, board, taskArea, messageArea, placeArea, join, pieces, boardOf, bytesOf, nth}
+use Rattle.board.specs.Board.{Board, board, taskArea, messageArea, placeArea, join, boardOf, bytesOf}
 use Rattle.board.specs.Claims.{Bytes}
-use Rattle.board.proofs.Numbered.{nth-map}
-use Rattle.board.proofs.Pieces.{outside-within, nth-outside, length-pieces, piece-byte}
+use Rattle.board.proofs.Pieces.{outside-within}
 use Rattle.board.proofs.Codec.{Small, small-at, small-append, small-records, word-halves, length-records, records-read}
-use Rattle.board.proofs.Codec.{task-back, message-back, length-tasks, length-messages, length-places}
+use Rattle.board.proofs.Codec.{read-holds, task-back, message-back, length-tasks, length-messages, length-places}
 use Rattle.kept.specs.Settled.{FitsTask, FitsMessage, Fits}
 use Rattle.kept.proofs.Reading.{FitsPlace}
 
@@ -167,33 +165,17 @@ place-byte z p =
 fits-placeOf : (z : Size) (p : ℕ) → Byte p → FitsPlace z (placeOf z p)
 fits-placeOf z p h = (subst Byte (sym (place-byte z p)) h, ap (placeOf z) (place-byte z p))
 
-module _ (z : Size) (l : List ℕ) (h : Bytes z l) where
-  -- a record's bytes are bytes
-  piece-bytes : (a : Area) (k i : ℕ) → i < a .stride → Byte (getD (nth [] (pieces a l) k) i 0)
-  piece-bytes a k i d = step (outside (a .count) k) refl
-    where
-      step : (t : Bool) → outside (a .count) k ≡ t → Byte (getD (nth [] (pieces a l) k) i 0)
-      step true e =
-          subst (λ (p : List ℕ). Byte (getD p i 0))
-          (sym (nth-outside [] (pieces a l) k (ap (λ (n : ℕ). outside n k) (length-pieces a l) ∙ e))) (lit< tt)
-      step false e = subst Byte (sym (piece-byte a l k i e d)) (h .bytes _)
-
-  -- what holds of any record read from bytes holds of each
-  read-holds : {A : Type 0} (P : A → Type 0) (of : List ℕ → A) (none : A) (a : Area) → of [] ≡ none
-      → ((p : List ℕ) → ((i : ℕ) → i < a .stride → Byte (getD p i 0)) → P (of p)) → (k : ℕ) → P (nth none (map of (pieces a l)) k)
-  read-holds P of none a e g k =
-      subst P (sym (nth-map of [] none (pieces a l) k e)) (g (nth [] (pieces a l) k) (piece-bytes a k))
-
-  -- what is read from bytes fits
-  pub fits-board : Fits z (boardOf z l)
-  fits-board = record {
-    first = h .bytes 0;
-    running = h .bytes 1;
-    zeros = length-take-le 2 (drop 2 l) (omega (arith, length-drop 2 l, h .long));
-    tasks = length-tasks z l;
-    messages = length-messages z l;
-    places = length-places z l;
-    task = read-holds FitsTask taskOf noTask (taskArea z) refl fits-taskOf;
-    message = read-holds FitsMessage messageOf noMessage (messageArea z) refl fits-messageOf;
-    place = read-holds (FitsPlace z) (placeIn z) Free (placeArea z) refl (λ p b. fits-placeOf z (getD p 0 0) (b 0 (lit< tt)));
-  }
+-- what is read from bytes fits
+pub fits-board : (z : Size) (l : List ℕ) → Bytes z l → Fits z (boardOf z l)
+fits-board z l h = record {
+  first = h .bytes 0;
+  running = h .bytes 1;
+  zeros = length-take-le 2 (drop 2 l) (omega (arith, length-drop 2 l, h .long));
+  tasks = length-tasks z l;
+  messages = length-messages z l;
+  places = length-places z l;
+  task = read-holds l (h .bytes) FitsTask taskOf noTask (taskArea z) refl fits-taskOf;
+  message = read-holds l (h .bytes) FitsMessage messageOf noMessage (messageArea z) refl fits-messageOf;
+  place = read-holds l (h .bytes) (FitsPlace z) (placeIn z) Free (placeArea z) refl
+      (λ p b. fits-placeOf z (getD p 0 0) (b 0 (lit< tt)));
+}

@@ -13,16 +13,16 @@ use Rattle.board.specs.declared.numbers.Size.{Size}
 use Rattle.board.specs.Numbers.{small}
 use Rattle.board.specs.Status.{MHBS, has}
 use Rattle.board.specs.Records.{Byte}
-use Rattle.board.specs.Board.{Board, boardOf, bytesOf, task}
+use Rattle.board.specs.Board.{Board, boardOf, task}
 use Rattle.board.specs.Claims.{Bytes}
 use Rattle.paper.specs.declared.call.Call.{Call}
 use Rattle.paper.specs.declared.answer.Refusal.the-variants.{NothingToDeliver}
 use Rattle.paper.specs.declared.answer.Answer.{Answer}
 use Rattle.paper.specs.declared.answer.Answer.the-variants.{Refused}
 use Rattle.paper.specs.Answers.{numberOf, handed}
-use Rattle.paper.specs.Rules.{order, runsNext, passes}
+use Rattle.paper.specs.Rules.{order, passes}
 use Rattle.paper.specs.Refusals.{no1, no2, ownRow, row, Verdict, Go, Stop, given}
-use Rattle.paper.specs.Outcomes.{Outcome, Undispatched, judge, body, dispatch, accepted, effect}
+use Rattle.paper.specs.Outcomes.{Outcome, Undispatched, judge, body, dispatch, effect}
 use Rattle.paper.proofs.Theorems.{row-below, accepted-passed}
 use Rattle.linked.specs.Sound.{RunsRightly, Sound}
 use Rattle.linked.proofs.Boards.{says-passes}
@@ -61,6 +61,30 @@ module _ (z : Size) (b : Board) (a : Sizes z) (f : Fits z b) where
       says-passes z b (f .tasks) (f .places) (a .limit) .1
       (record { order = q; queues = queues; regular = h .regular; flags = h .flags; runs = r; idle = i })
 
+-- ---- what dispatch makes of a board that is settled
+module _ (z : Size) (l : List ℕ) (d : Undispatched) (q : List ℕ) (queues : ℕ → List ℕ) (a : Sizes z)
+    (s : Settled z (d .board) q queues) where
+  abbrev t : Handing z q l d
+  t = dispatched z q l queues (d .value) (d .board) a s
+
+  -- it isn't refused
+  pub dispatch-accepts : dispatch z l d .answer ≢ Refused NothingToDeliver
+  dispatch-accepts r =
+      let x : handed (dispatch z l d .answer) .number ≡ 0 = ap (λ (o : Outcome). handed (o .answer) .number) (t .ends) in
+      let y : handed (dispatch z l d .answer) .number ≡ 15 = ap (λ (x : Answer). handed x .number) r in
+      absurd (omega arith)
+
+  -- and its bytes pass
+  pub dispatch-passes : let k = dispatch z l d .after in Bytes z k × (passes z (boardOf z k) ≡ true)
+  dispatch-passes =
+      let f = t .settled .fits in
+      subst (λ (o : Outcome). Bytes z (o .after) × (passes z (boardOf z (o .after)) ≡ true)) (sym (t .ends)) (
+        bytes-fit z (t .board) f (t .settled .regular .zeros),
+        ap (passes z) (board-bytes z (t .board) f) ∙ settled-passes z (t .board) a f _ (t .queues) (t .settled)
+            (subst (RunsRightly (t .board)) (sym (t .runs)) (t .rightly))
+            (ap (λ (c : ℕ). has (task (t .board) c .stat) MHBS) (t .runs) ∙ t .idle),
+      )
+
 -- ---- a call, by the verdict of its row
 module _ (z : Size) (l : List ℕ) (call : Call) (a : Sizes z) (h : (i : ℕ) → Byte (getD l i 0)) (w : Fitting call) where
   abbrev b : Board
@@ -93,15 +117,10 @@ module _ (z : Size) (l : List ℕ) (call : Call) (a : Sizes z) (h : (i : ℕ) �
   pub went : given (row z l b (b .running) call) ≡ Go → Handing z orderThen l d
   went g = let (queues, s) = settles g in dispatched z orderThen l queues (d .value) (d .board) a s
 
-  -- it is not refused
-  accepted-number : (o : Outcome) (v c m : ℕ) (k : List ℕ) → o ≡ accepted v c m k → o .answer ≢ Refused NothingToDeliver
-  accepted-number o v c m k e r =
-      let x : handed (o .answer) .number ≡ 0 = ap (λ (x : Outcome). handed (x .answer) .number) e in
-      let y : handed (o .answer) .number ≡ 15 = ap (λ (x : Answer). handed x .number) r in
-      absurd (omega arith)
-
-  by-verdict : (v : Verdict) → given (row z l b (b .running) call) ≡ v → judge l v (dispatch z l d) .answer ≢ Refused NothingToDeliver
-  by-verdict Go e = let t = went e in accepted-number (dispatch z l d) (d .value) (runsNext z (d .board)) (t .delivered) (bytesOf (t .board)) (t .ends)
+  -- it isn't refused at dispatch
+  by-verdict : (v : Verdict) → given (row z l b (b .running) call) ≡ v
+      → judge l v (dispatch z l d) .answer ≢ Refused NothingToDeliver
+  by-verdict Go e = let (queues, s) = settles e in dispatch-accepts z l d orderThen queues a s
   by-verdict (Stop q) e = λ r.
       let x : numberOf q ≡ 15 = ap (λ (x : Answer). handed x .number) r in
       let y = row-below z l b (b .running) call q e in
@@ -112,15 +131,7 @@ module _ (z : Size) (l : List ℕ) (call : Call) (a : Sizes z) (h : (i : ℕ) �
   Passes k = Bytes z k × (passes z (boardOf z k) ≡ true)
 
   passes-after : (v : Verdict) → given (row z l b (b .running) call) ≡ v → Passes l → Passes (judge l v (dispatch z l d) .after)
-  passes-after Go e p =
-      let t = went e in
-      let f = t .settled .fits in
-      subst (λ (o : Outcome). Passes (o .after)) (sym (t .ends)) (
-        bytes-fit z (t .board) f (t .settled .regular .zeros),
-        ap (passes z) (board-bytes z (t .board) f) ∙ settled-passes z (t .board) a f _ (t .queues) (t .settled)
-            (subst (RunsRightly (t .board)) (sym (t .runs)) (t .rightly))
-            (ap (λ (c : ℕ). has (task (t .board) c .stat) MHBS) (t .runs) ∙ t .idle),
-      )
+  passes-after Go e p = let (queues, s) = settles e in dispatch-passes z l d orderThen queues a s
   passes-after (Stop q) e p = p
 
 pub never-stuck : NeverStuck

@@ -108,6 +108,10 @@ rearranged-in q l h y =
       λ i. times-in y q (omega (arith, in-times y l i)),
     )
 
+-- where none stands twice in the one, none does in the other
+pub rearranged-once : (q l : List ℕ) → rearranged q l ≡ true → Once l → Once q
+rearranged-once q l h d = times-once q (λ y. omega (arith, rearranged-times q l h y, once-times l d y))
+
 -- they are as many
 pub rearranged-length : (q l : List ℕ) → rearranged q l ≡ true → length q ≡ length l
 rearranged-length [] [] h = refl

@@ -3,7 +3,7 @@
 use mathlib.Core.Path.{_≡_, refl, sym, ap, _∙_, subst}
 use mathlib.Core.Logic.{_≢_, _⊎_, inl, inr, ⊎-elim, _↔_}
 use mathlib.Core.Bool.{Bool, true, false, true≢false}
-use mathlib.Core.List.{List, [], _∷_, _++_}
+use mathlib.Core.List.{List, [], _∷_, _++_, map}
 use Prim.Native.Nat.{ℕ, zero, suc, _≤_}
 use native.Mathlib.Omega.{arith}
 use native.Mathlib.Decide.{ℕ-discrete}
@@ -89,6 +89,18 @@ in-add x e a = (
   (λ i. ⊎-elim (λ l. inl l) (λ r. ⊎-elim (λ d. inr d) (λ n. absurd n) r) (in-cases x a (e ∷ []) i)),
   ⊎-elim (in-left x a (e ∷ [])) (λ d. in-right x a (e ∷ []) (inl d)),
 )
+
+-- in a list that is mapped: what one of the list is mapped to
+pub in-map : {A B : Type 0} (f : A → B) (y : B) (l : List A) → In y (map f l) → (x : A) × In x l × (y ≡ f x)
+in-map f y [] i = absurd i
+in-map f y (x ∷ l) (inl e) = (x, inl refl, e)
+in-map f y (x ∷ l) (inr i) = let (w, j, e) = in-map f y l i in (w, inr j, e)
+
+-- and each of the list is mapped to one in it
+pub map-in : {A B : Type 0} (f : A → B) (x : A) (l : List A) → In x l → In (f x) (map f l)
+map-in f x [] i = absurd i
+map-in f x (y ∷ l) (inl e) = inl (ap f e)
+map-in f x (y ∷ l) (inr i) = inr (map-in f x l i)
 
 -- out of both, so out of the front
 pub out-left : (x : ℕ) (a b : List ℕ) → Out x (a ++ b) → Out x a

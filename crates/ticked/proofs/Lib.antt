@@ -1,2 +1,5 @@
 pub mod Entries
 pub mod Returning
+pub mod Starting
+pub mod Filled
+pub mod Freed
