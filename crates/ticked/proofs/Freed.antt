@@ -1,7 +1,6 @@
--- The entries that are due are freed: the messages left are those of entries in use that weren't due, and free entries are still zero.
+-- The entries that are due are freed: the messages left are those of the others in use, and free entries are still zero.
 -- Assumes nothing.
 use mathlib.Core.Path.{_≡_, refl, sym, ap, _∙_, subst}
-use mathlib.Core.Logic.{inl, inr}
 use mathlib.Core.Bool.{Bool, true, false, true≢false, _||_}
 use mathlib.Core.List.{List, [], _∷_, map}
 use Prim.Native.Nat.{ℕ}
@@ -41,7 +40,8 @@ module _ (at : ℕ) where
   pub freed-in : (e : Entry) (es : List Entry) → In e es → isUsed e ≡ true → isDue at e ≡ false
       → In (e .message) (used (map (freed at) es))
   freed-in e es i u d =
-      used-in e (map (freed at) es) (subst (λ (x : Entry). In x (map (freed at) es)) (freed-same e d) (map-in (freed at) e es i)) u
+      let j = subst (λ (x : Entry). In x (map (freed at) es)) (freed-same e d) (map-in (freed at) e es i) in
+      used-in e (map (freed at) es) j u
 
   -- none of them stands twice
   pub freed-once : (es : List Entry) → Once (used es) → Once (used (map (freed at) es))

@@ -50,10 +50,9 @@ start-row z b c t m delay g =
 
 -- 128 is a byte that says so, for there are fewer than 64 tasks
 timer-fits : (z : Size) → Sizes z → FitsPlace z OnTimer
-timer-fits z a = (
-  lit< tt,
-  place-timer z 128 refl (outside-above (z .tasks) 128 (omega (arith, a .tasks))) (outside-above (z .tasks) 64 (omega (arith, a .tasks))),
-)
+timer-fits z a =
+    let few = a .tasks in
+    (lit< tt, place-timer z 128 refl (outside-above (z .tasks) 128 (omega arith)) (outside-above (z .tasks) 64 (omega arith)))
 
 -- R1 to R6 hold, and the lists stay
 pub start-settled : (z : Size) (b : Board) (order : List ℕ) (queues : ℕ → List ℕ) (c : ℕ) (t : Timer) (m delay : ℕ) → Sizes z

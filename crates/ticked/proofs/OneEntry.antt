@@ -1,0 +1,56 @@
+-- A message on the timer stands in exactly one entry, by the entry's number.
+-- Assumes nothing.
+use mathlib.Core.Path.{_≡_, refl, sym, ap, _∙_, subst}
+use mathlib.Core.Logic.{_≢_, inl, inr}
+use mathlib.Core.Bool.{Bool, true, false, not}
+use mathlib.Core.List.{List, [], _∷_}
+use Prim.Native.Nat.{ℕ, zero, suc, _<_}
+use native.Mathlib.Omega.{arith}
+use lib.ListN.{length, getD}
+use lib.Dec.{eqb}
+use borrow.Author.Tests.{ne-eqb}
+use Rattle.links.specs.Queue.{consIf}
+use Rattle.links.specs.Chain.{In, Once, Out}
+use Rattle.links.proofs.Members.{out-not-in}
+use Rattle.timer.specs.declared.entry.Entry.{Entry}
+use Rattle.timer.specs.Timer.{noEntry, isUsed}
+use Rattle.timing.specs.Timing.{used}
+use Rattle.ticked.proofs.Entries.{used-in, once-rest, once-first, used-later}
+
+-- the entry i, counted from 0, names m
+abbrev Names : List Entry → ℕ → ℕ → Type 0
+Names es m i = (i < length es) × (getD es i noEntry .message ≡ m)
+
+-- ---- one of them, if the message is there
+names-used : (m : ℕ) (es : List Entry) → In m (used es) → (i : ℕ) × Names es m i
+names-used m [] i = absurd i
+names-used m (x ∷ es) i = step (isUsed x) i (names-used m es)
+  where
+    step : (t : Bool) → In m (consIf t (x .message) (used es)) → (In m (used es) → (i : ℕ) × Names es m i)
+        → (i : ℕ) × Names (x ∷ es) m i
+    step true (inl e) ih = (0, (omega arith, sym e))
+    step true (inr j) ih = let (k, p) = ih j in (suc k, (omega (arith, p .0), p .1))
+    step false j ih = let (k, p) = ih j in (suc k, (omega (arith, p .0), p .1))
+
+module _ (m : ℕ) (some : m ≢ 0) where
+  -- an entry that names it is in use
+  names-full : (e : Entry) → e .message ≡ m → isUsed e ≡ true
+  names-full e p = ap not (ne-eqb (e .message) 0 (λ q. some (sym p ∙ q)))
+
+  used-names : (es : List Entry) (i : ℕ) → Names es m i → In m (used es)
+  used-names [] i (l, e) = absurd (omega arith)
+  used-names (x ∷ es) zero (l, e) = subst (λ (n : ℕ). In n (used (x ∷ es))) e (used-in x (x ∷ es) (inl refl) (names-full x e))
+  used-names (x ∷ es) (suc i) (l, e) = used-later x es m (used-names es i (omega arith, e))
+
+  -- ---- no two of them, if no message stands twice
+  names-one : (es : List Entry) → Once (used es) → (i j : ℕ) → Names es m i → Names es m j → i ≡ j
+  names-one [] d i j (l, e) q = absurd (omega arith)
+  names-one (x ∷ es) d zero zero p q = refl
+  names-one (x ∷ es) d zero (suc j) p (l, e) =
+      absurd (out-not-in m (used es) (subst (λ (n : ℕ). Out n (used es)) (p .1) (once-first x es (names-full x (p .1)) d))
+      (used-names es j (omega arith, e)))
+  names-one (x ∷ es) d (suc i) zero (l, e) q =
+      absurd (out-not-in m (used es) (subst (λ (n : ℕ). Out n (used es)) (q .1) (once-first x es (names-full x (q .1)) d))
+      (used-names es i (omega arith, e)))
+  names-one (x ∷ es) d (suc i) (suc j) (l, e) (k, f) =
+      ap suc (names-one es (once-rest x es d) i j (omega arith, e) (omega arith, f))
