@@ -2,8 +2,8 @@
 -- Assumes nothing.
 use mathlib.Core.Path.{_≡_, refl, sym, ap, _∙_, subst}
 use mathlib.Core.Logic.{_⊎_, inl, inr, ⊎-elim, _↔_, Iff·rfl, Iff·trans}
-use mathlib.Core.Bool.{true, false, not, true≢false}
-use mathlib.Core.List.{List, _++_, map}
+use mathlib.Core.Bool.{true, not, true≢false}
+use mathlib.Core.List.{List, map}
 use Prim.Native.Nat.{ℕ}
 use native.Mathlib.Omega.{arith}
 use native.Mathlib.Decide.{ℕ-discrete}
@@ -40,7 +40,8 @@ use Rattle.ticked.proofs.Filled.{Between, filled-used, filled-zero}
 use Rattle.ticked.proofs.Freed.{in-freed, freed-in, freed-once, freed-zero}
 use Rattle.ticked.proofs.Fitting.{FitsTimer, fits-bytes, fits-back}
 
--- the entries are right for the board: free ones are zero, and the messages in the others are exactly those on the timer, once each
+-- the entries are right for the board: free ones are zero, and the messages in the others are exactly those on the timer, once
+-- each
 pub record Matches (b : Board) (es : List Entry) : Type 0 where
   pub zero : freeAreZero es ≡ true
   pub once : Once (used es)
@@ -119,7 +120,8 @@ module _ (z : Size) (b : Board) (order : List ℕ) (queues : ℕ → List ℕ) (
   -- its message is in the entry that was free, and on the timer
   there : (y : ℕ) → (y ≡ m) ⊎ In y (used es) → place (started b m) y ≡ OnTimer
   there y (inl e) =
-      subst (λ (n : ℕ). place (started b m) n ≡ OnTimer) (sym e) (place-put b m OnTimer (rw (← settled .fits .places) at numbered))
+      let n = rw (← settled .fits .places) at numbered in
+      subst (λ (k : ℕ). place (started b m) k ≡ OnTimer) (sym e) (place-put b m OnTimer n)
   there y (inr i) = nth-cases (λ (p : Place). p ≡ OnTimer) Free (b .places) m y OnTimer (λ e. refl) (right .exact y .0 i)
 
   here : (y : ℕ) → place (started b m) y ≡ OnTimer → Dec (y ≡ m) → (y ≡ m) ⊎ In y (used es)

@@ -6,3 +6,5 @@ pub mod Freed
 pub mod Fitting
 pub mod Buffers
 pub mod OneEntry
+pub mod Leaving
+pub mod Theorems

@@ -7,15 +7,19 @@ use mathlib.Core.List.{List, [], _∷_}
 use Prim.Native.Nat.{ℕ, zero, suc, _<_}
 use native.Mathlib.Omega.{arith}
 use lib.ListN.{length, getD}
-use lib.Dec.{eqb}
 use borrow.Author.Tests.{ne-eqb}
 use Rattle.links.specs.Queue.{consIf}
 use Rattle.links.specs.Chain.{In, Once, Out}
 use Rattle.links.proofs.Members.{out-not-in}
+use Rattle.board.specs.declared.places.Place.the-variants.{OnTimer}
+use Rattle.board.specs.Numbers.{Numbered}
+use Rattle.board.specs.Board.{Board, place}
 use Rattle.timer.specs.declared.entry.Entry.{Entry}
-use Rattle.timer.specs.Timer.{noEntry, isUsed}
+use Rattle.timer.specs.Timer.{Timer, noEntry, isUsed, entry}
 use Rattle.timing.specs.Timing.{used}
+use Rattle.ticked.specs.Claims.{OneTimer}
 use Rattle.ticked.proofs.Entries.{used-in, once-rest, once-first, used-later}
+use Rattle.ticked.proofs.Buffers.{Matches}
 
 -- the entry i, counted from 0, names m
 abbrev Names : List Entry → ℕ → ℕ → Type 0
@@ -54,3 +58,25 @@ module _ (m : ℕ) (some : m ≢ 0) where
       (used-names es i (omega arith, e)))
   names-one (x ∷ es) d (suc i) (suc j) (l, e) (k, f) =
       ap suc (names-one es (once-rest x es d) i j (omega arith, e) (omega arith, f))
+
+-- ---- against the board
+-- entries that are right for it name a message on the timer once, and no other
+pub one-timer : (b : Board) (t : Timer) → length (t .entries) ≡ 16 → Matches b (t .entries) → (m : ℕ) → m ≢ 0
+    → (place b m ≡ OnTimer → OneTimer t m) × (place b m ≢ OnTimer → (j : ℕ) → Numbered 16 j → entry t j .message ≢ m)
+one-timer b t long h m some = (one, λ n j k p. n (h .exact m .0 (there j k p)))
+  where
+    names : (j : ℕ) → Numbered 16 (suc j) → entry t (suc j) .message ≡ m → Names (t .entries) m j
+    names j k p = (omega (arith, k .1, long), p)
+
+    there : (j : ℕ) → Numbered 16 j → entry t j .message ≡ m → In m (used (t .entries))
+    there zero k p = absurd (omega (arith, k .0))
+    there (suc j) k p = used-names m some (t .entries) j (names j k p)
+
+    same : (i j : ℕ) → Names (t .entries) m i → Numbered 16 j → entry t j .message ≡ m → j ≡ suc i
+    same i zero p k q = absurd (omega (arith, k .0))
+    same i (suc j) p k q = ap suc (names-one m some (t .entries) (h .once) j i (names j k q) p)
+
+    one : place b m ≡ OnTimer → OneTimer t m
+    one o =
+        let (i, p) = names-used m (t .entries) (h .exact m .1 o) in
+        (suc i, (omega arith, omega (arith, p .0, long)), p .1, λ j. same i j p)
