@@ -1,6 +1,6 @@
 -- What an accepted start and an accepted tick leave before dispatch, and what dispatch makes of that.
 -- Assumes nothing.
-use mathlib.Core.Path.{_≡_, sym, ap, subst}
+use mathlib.Core.Path.{_≡_, refl, sym, ap, subst}
 use mathlib.Core.Logic.{_≢_}
 use mathlib.Core.Bool.{true}
 use mathlib.Core.List.{List}
@@ -15,7 +15,7 @@ use Rattle.paper.specs.declared.answer.Refusal.{Refusal}
 use Rattle.paper.specs.declared.answer.Refusal.the-variants.{NothingToDeliver}
 use Rattle.paper.specs.declared.answer.Answer.the-variants.{Refused}
 use Rattle.paper.specs.Rules.{passes}
-use Rattle.paper.specs.Refusals.{Test, Verdict, Go, Stop, given}
+use Rattle.paper.specs.Refusals.{Verdict, Go, Stop, given}
 use Rattle.paper.specs.Outcomes.{Outcome, undispatched, judge, dispatch}
 use Rattle.kept.specs.Settled.{Settled}
 use Rattle.kept.specs.Claims.{Sizes}
@@ -99,9 +99,8 @@ module _ (z : Size) (l s : List ℕ) (a : TimerSizes z) (h : (i : ℕ) → Byte 
         right = matches-ticked z at (p .order) (a .sizes) (t .entries) b (p .queues) (p .settled) (p .right);
       }
 
--- ---- dispatch behind them, by the verdict of the row
-module _ (z : Size) (l s : List ℕ) (tests : List Test) (d : Board) (t : Timer) (a : Sizes z)
-    (left : given tests ≡ Go → Left z d t) where
+-- ---- dispatch behind them
+module _ (z : Size) (l s : List ℕ) (d : Board) (t : Timer) (a : Sizes z) where
   abbrev outcome : Outcome
   outcome = dispatch z l (undispatched 0 d)
 
@@ -123,14 +122,15 @@ module _ (z : Size) (l s : List ℕ) (tests : List Test) (d : Board) (t : Timer)
         good = good-stays d (boardOf z (outcome .after)) (timerBytes t) stays good;
       })
 
-  -- so the event leaves such, if there were such before
-  pub stays-passing : (v : Verdict) → given tests ≡ v → Passing z l s → let o = timed (judge l v outcome) s t in
+  -- by the verdict of the row: a board and a buffer that pass are left, if such were there before
+  pub stays-passing : (v : Verdict) → (v ≡ Go → Left z d t) → Passing z l s → let o = timed (judge l v outcome) s t in
       Passing z (o .board) (o .timer)
-  stays-passing Go e p = left-passes (left e)
-  stays-passing (Stop q) e p = p
+  stays-passing Go left p = left-passes (left refl)
+  stays-passing (Stop q) left p = p
 
-  -- and it isn't stuck
-  pub not-stuck : (v : Verdict) → given tests ≡ v → ((q : Refusal) → given tests ≡ Stop q → q ≢ NothingToDeliver)
+  -- and it isn't stuck, where the row doesn't say so
+  pub not-stuck : (v : Verdict) → (v ≡ Go → Left z d t) → ((q : Refusal) → v ≡ Stop q → q ≢ NothingToDeliver)
       → judge l v outcome .answer ≢ Refused NothingToDeliver
-  not-stuck Go e below = let h = left e in dispatch-accepts z l (undispatched 0 d) (h .order) (h .queues) a (h .settled)
-  not-stuck (Stop q) e below = λ r. let same : q ≡ NothingToDeliver = cc in below q e same
+  not-stuck Go left below =
+      let h = left refl in dispatch-accepts z l (undispatched 0 d) (h .order) (h .queues) a (h .settled)
+  not-stuck (Stop q) left below = λ r. let same : q ≡ NothingToDeliver = cc in below q refl same

@@ -1,6 +1,6 @@
 -- The claims of specs/Claims, proved, but for the delay.
 -- Assumes nothing.
-use mathlib.Core.Path.{refl, ap, _∙_}
+use mathlib.Core.Path.{ap, _∙_}
 use native.Mathlib.Omega.{arith}
 use Rattle.board.specs.declared.numbers.Size.{Size}
 use Rattle.board.specs.Board.{Board, boardOf}
@@ -33,20 +33,20 @@ events-stay-passing z l s (Called call) a w p =
           (calls-leave-the-timer z l call (a .sizes) (p .bytes .bytes) w) (p .good);
     }
 events-stay-passing z l s (Started m delay) a w p = let b = boardOf z l in
-    stays-passing z l s (startRow z l b (b .running) s m delay) (started b m) (startedTimer (timerOf s) m delay) (a .sizes)
-    (start-leaves z l s a (p .bytes .bytes) (p .timerBytes .bytes) m delay) (given (startRow z l b (b .running) s m delay)) refl p
+    stays-passing z l s (started b m) (startedTimer (timerOf s) m delay) (a .sizes)
+    (given (startRow z l b (b .running) s m delay)) (start-leaves z l s a (p .bytes .bytes) (p .timerBytes .bytes) m delay) p
 events-stay-passing z l s Ticked a w p = let b = boardOf z l in let t = timerOf s in
-    stays-passing z l s (tickRow z l b s) (returned z (nextNow t) (t .entries) b) (ticked t) (a .sizes)
-    (tick-leaves z l s a (p .bytes .bytes) (p .timerBytes .bytes)) (given (tickRow z l b s)) refl p
+    stays-passing z l s (returned z (nextNow t) (t .entries) b) (ticked t) (a .sizes) (given (tickRow z l b s))
+    (tick-leaves z l s a (p .bytes .bytes) (p .timerBytes .bytes)) p
 
 -- ---- no start and no tick is stuck
 pub never-stuck : NeverStuck
 never-stuck z l s a h g = let b = boardOf z l in let t = timerOf s in (
-  (λ m delay v w. let row = startRow z l b (b .running) s m delay in
-      not-stuck z l s row (started b m) (startedTimer t m delay) (a .sizes) (start-leaves z l s a h g m delay) (given row) refl
+  (λ m delay v w. not-stuck z l s (started b m) (startedTimer t m delay) (a .sizes)
+      (given (startRow z l b (b .running) s m delay)) (start-leaves z l s a h g m delay)
       (start-below z l b (b .running) s m delay)),
-  not-stuck z l s (tickRow z l b s) (returned z (nextNow t) (t .entries) b) (ticked t) (a .sizes) (tick-leaves z l s a h g)
-      (given (tickRow z l b s)) refl (tick-below z l b s),
+  not-stuck z l s (returned z (nextNow t) (t .entries) b) (ticked t) (a .sizes) (given (tickRow z l b s))
+      (tick-leaves z l s a h g) (tick-below z l b s),
 )
 
 -- ---- a tick goes
@@ -56,8 +56,7 @@ ticks-go z l s a p =
     let t : Timer = timerOf s in
     let d : Board = returned z (nextNow t) (t .entries) b in
     let goes = tick-goes z l b s (p .bytes .long) (p .sound) (p .good) in
-    let left = tick-leaves z l s a (p .bytes .bytes) (p .timerBytes .bytes) in
-    let h = left-accepts z l s (tickRow z l b s) d (ticked t) (a .sizes) left (left goes) in (
+    let h = left-accepts z l s d (ticked t) (a .sizes) (tick-leaves z l s a (p .bytes .bytes) (p .timerBytes .bytes) goes) in (
       runsNext z d,
       h .delivered,
       ap (λ (v : Verdict). judge l v (dispatch z l (undispatched 0 d)) .answer) goes
