@@ -8,3 +8,7 @@ pub mod Buffers
 pub mod OneEntry
 pub mod Leaving
 pub mod Theorems
+pub mod Delivering
+pub mod Putting
+pub mod Waits
+pub mod Delays
