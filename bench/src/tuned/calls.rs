@@ -20,7 +20,7 @@ pub fn call(b: &mut Board, found: &Found, kind: u8, words: [u16; 3], stat: u8, p
         _ => (),
     }
     match kind {
-        4 => cancel_task(b, c, x),
+        4 => cancel_task(b, found, x),
         5 => claim(b, c),
         6 => prepare(b, c, x, stat, prio, y),
         7 => release(b, c, x),
@@ -33,18 +33,18 @@ pub fn call(b: &mut Board, found: &Found, kind: u8, words: [u16; 3], stat: u8, p
 }
 
 #[inline(always)]
-fn put_word(b: &mut Board, at: usize, w: usize) {
+pub fn put_word<const LEN: usize>(b: &mut [u8; LEN], at: usize, w: usize) {
     b[at..at + 2].copy_from_slice(&(w as u16).to_le_bytes());
 }
 
 #[inline(always)]
-fn is_present(b: &Board, k: usize) -> bool {
+pub fn is_present(b: &Board, k: usize) -> bool {
     k.wrapping_sub(1) < TASKS.into() && b[task(k)] & Status::TCBB != 0
 }
 
 /// Message m, which c holds, or the refusal.
 #[inline(always)]
-fn held(b: &Board, c: usize, m: usize) -> Result<usize, u64> {
+pub fn held(b: &Board, c: usize, m: usize) -> Result<usize, u64> {
     if m.wrapping_sub(1) >= MESSAGES.into() {
         return Err(4);
     }
@@ -62,7 +62,7 @@ fn first_task(b: &Board) -> usize {
 
 /// Whether task k, which is ready, takes c's turn. While c is ready, nobody else can: no other had a smaller number before.
 #[inline(always)]
-fn outranks(b: &Board, k: usize, c: usize) -> bool {
+pub fn outranks(b: &Board, k: usize, c: usize) -> bool {
     c == 0 || b[task(k) + 1] < b[task(c) + 1]
 }
 
@@ -74,7 +74,7 @@ fn runs(b: &mut Board, k: usize) -> u64 {
 }
 
 /// Task k runs now, and its message is handed over if it is due one.
-fn dispatch(b: &mut Board, k: usize) -> u64 {
+pub fn dispatch(b: &mut Board, k: usize) -> u64 {
     let s = b[task(k)];
     if s & Status::MHBS == 0 {
         return runs(b, k);
@@ -85,8 +85,8 @@ fn dispatch(b: &mut Board, k: usize) -> u64 {
     accepted(0, k, m)
 }
 
-/// The first ready task runs, if there is one: who ran is ready no more.
-fn dispatch_first(b: &mut Board) -> u64 {
+/// The first ready task runs, if there is one: who ran is ready no more, or outranked.
+pub fn dispatch_first(b: &mut Board) -> u64 {
     let mut k = first_task(b);
     while k != 0 {
         if b[task(k)] & (Status::WAIT | Status::IWAT) == 0 {
@@ -191,12 +191,13 @@ fn find(b: &Board, found: &Found, name: usize) -> usize {
     k
 }
 
-fn cancel_task(b: &mut Board, c: usize, k: usize) -> u64 {
+fn cancel_task(b: &mut Board, found: &Found, k: usize) -> u64 {
     if !is_present(b, k) {
         return 6;
     }
-    let t = task(k);
-    if word(b, t + 4) != 0 || b[t] & Status::IWAT != 0 || b[PLACES_AT..].contains(&(k as u8)) {
+    let (t, c) = (task(k), found.running);
+    let is_awaiting = found.timed.awaiting >> k & 1 != 0;
+    if is_awaiting || word(b, t + 4) != 0 || b[t] & Status::IWAT != 0 || b[PLACES_AT..].contains(&(k as u8)) {
         return 10;
     }
     let (mut slot, mut other) = (TASK_QUEUE, first_task(b));
@@ -289,7 +290,7 @@ fn send(b: &mut Board, found: &Found, kind: u8, m: usize, to: usize) -> u64 {
     } else if asks_for_senders {
         return 7;
     }
-    let woken = into_queue(b, found, m, r);
+    let woken = into_queue(b, m, r, task(r) + 4, found.last[r].into());
     if kind % 2 == 1 {
         return wait(b, c, if woken { r } else { 0 });
     }
@@ -299,14 +300,13 @@ fn send(b: &mut Board, found: &Found, kind: u8, m: usize, to: usize) -> u64 {
     accepted(0, c, 0)
 }
 
-/// True if r was woken. The last of the queue is known from the check: what goes to the end is put there at once.
+/// True if r was woken. The spot of m is at this slot of r's queue or behind it. The last of the queue is known: what goes to the
+/// end is put there at once.
 #[inline(always)]
-fn into_queue(b: &mut Board, found: &Found, m: usize, r: usize) -> bool {
+pub fn into_queue(b: &mut Board, m: usize, r: usize, mut slot: usize, last: usize) -> bool {
     let prio = b[message(m) + 1];
-    let last = usize::from(found.last[r]);
     // queued messages have an odd PRIO, so they compare with the PRIO of a FIFO message as the numbers do, and never equal that of
     // a LIFO one
-    let mut slot = task(r) + 4;
     let mut next = word(b, slot);
     if next != 0 && b[message(last) + 1] <= prio {
         slot = message(last) + 2;

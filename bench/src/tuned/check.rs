@@ -1,7 +1,7 @@
 //! R1 to R7 in three passes: places with message records eight at a time, one walk of all that is linked, and the tasks that it
 //! did not meet.
 use super::{message, pieces, place, task, word};
-use model::board::{Board, Status, MESSAGES, MESSAGES_AT, PLACES_AT, RUNNING, TASKS, TASKS_AT};
+use model::board::{Board, Status, MESSAGES, MESSAGES_AT, ON_TIMER, PLACES_AT, RUNNING, TASKS, TASKS_AT};
 
 /// What the check has come by on a board that passes, for the call that follows.
 pub struct Found {
@@ -13,6 +13,18 @@ pub struct Found {
     pub last_task: usize,
     /// The last message of each task's queue, by task; of an empty queue it is not told.
     pub last: [u8; TASKS as usize + 1],
+    /// The messages on the timer.
+    pub timed: Timed,
+}
+
+/// The messages on the timer.
+#[derive(Default)]
+pub struct Timed {
+    /// A bit for each, from bit 0 on, and how many they are.
+    pub messages: u128,
+    pub count: usize,
+    /// The tasks that they go back to, a bit for each; bit 0 where one names none.
+    pub awaiting: u64,
 }
 
 /// A message record as one number: LINK, and bits that RPTR and SPTR have only above 63.
@@ -33,14 +45,16 @@ const NONE: u64 = 256;
 #[inline(always)]
 pub fn examine(b: &Board) -> Option<Found> {
     let messages = look_at_messages(b)?;
+    let timed = if messages.mixed & (EACH * 0x80) == 0 { Timed::default() } else { look_at_timed(b)? };
     let mut last = [0; TASKS as usize + 1];
-    let walk = walk_tasks(b, messages.queued, &mut last)?;
+    let walk = walk_tasks(b, messages.queued - timed.count, &mut last)?;
     let running = usize::from(b[RUNNING]);
-    // each holder is present
-    if messages.holders & !(walk.seen | 1) != 0 || !walk.can_run(b, running) || !others_are_zero(b, walk.seen) {
+    // each holder is present, and each task that the timer returns a message to
+    let named = messages.holders & !1 | timed.awaiting;
+    if named & !walk.seen != 0 || !walk.can_run(b, running) || !others_are_zero(b, walk.seen) {
         return None;
     }
-    Some(Found { running, present: walk.seen, last_task: walk.last_task, last })
+    Some(Found { running, present: walk.seen, last_task: walk.last_task, last, timed })
 }
 
 /// What the first pass gathers.
@@ -55,6 +69,8 @@ struct Messages {
     queued: usize,
     /// The tasks that hold one, a bit for each, and bit 0.
     holders: u64,
+    /// The places of the groups that are looked at one by one, ORed together.
+    mixed: u64,
 }
 
 impl Messages {
@@ -99,10 +115,32 @@ fn look_at_messages(b: &Board) -> Option<Messages> {
             // none is 0: the lowest such byte would have borrowed
             all.eight_held(eight, places);
         } else {
+            all.mixed |= p;
             pieces(eight).zip(places).for_each(|(record, &p)| all.one(u64::from_le_bytes(*record), p));
         }
     }
     (all.bad | all.pointers & FAR | all.reached & BEYOND == 0).then_some(all)
+}
+
+/// R4 of the messages on the timer, but for the presence of the tasks that they go back to; none has a place above theirs.
+#[inline(never)]
+fn look_at_timed(b: &Board) -> Option<Timed> {
+    let (mut timed, mut bad) = (Timed::default(), 0);
+    for (i, places) in pieces(&b[PLACES_AT..]).enumerate() {
+        let mut high = u64::from_le_bytes(*places) & (EACH * 0x80);
+        while high != 0 {
+            let m = 8 * i + high.trailing_zeros() as usize / 8 + 1;
+            high &= high - 1;
+            let record = u64::from_le_bytes(b[message(m)..message(m) + 8].try_into().expect("eight bytes"));
+            bad |= u64::from(b[place(m)] ^ ON_TIMER) | record & (LINK | FAR) | record.wrapping_add(REACH) & BEYOND;
+            // PRIO is below FEH
+            bad |= ((record >> 8 & 0xFF) + 2) & 0x100;
+            timed.messages |= 1 << (m - 1);
+            timed.count += 1;
+            timed.awaiting |= 1 << (record >> 48 & 63);
+        }
+    }
+    (bad == 0).then_some(timed)
 }
 
 /// What the walk gathers, but for the last of each queue: beside an array these would lie in memory.

@@ -2,7 +2,7 @@
 //! boards that it refuses come here.
 use super::check::{BEYOND, FAR, LINK, REACH};
 use super::{message, place, task, word};
-use model::board::{Board, Status, MESSAGES, PLACES_AT, RUNNING, TASKS, TASK_LEN, TASK_QUEUE};
+use model::board::{Board, Status, MESSAGES, ON_TIMER, PLACES_AT, RUNNING, TASKS, TASK_LEN, TASK_QUEUE};
 
 /// Refusal 2 with the rule and the record, packed.
 #[cold]
@@ -61,12 +61,13 @@ fn tasks_are_in_order(b: &Board, present: u64) -> bool {
 fn message_is_good(b: &Board, m: usize, present: u64) -> bool {
     let record = u64::from_le_bytes(b[message(m)..message(m) + 8].try_into().expect("eight bytes"));
     let (p, prio) = (b[place(m)], record >> 8 & 0xFF);
-    if p == 0 {
-        return record == 0;
-    }
-    let is_queued = p >= 64;
-    let k = if is_queued { p - 64 } else { p };
-    let own = if is_queued { prio & 1 == 1 && prio != 0xFF } else { record & LINK == 0 };
+    // the task that it needs, and what its place alone asks of it
+    let (k, own) = match p {
+        0 => return record == 0,
+        ON_TIMER => (record >> 48, record & LINK == 0 && prio < 0xFE),
+        1..64 => (p.into(), record & LINK == 0),
+        _ => (u64::from(p) - 64, prio & 1 == 1 && prio != 0xFF),
+    };
     own && k < 64 && present >> k & 1 == 1 && record & FAR | record.wrapping_add(REACH) & BEYOND == 0
 }
 
