@@ -4,7 +4,7 @@
 //! | Module | Holds |
 //! |---|---|
 //! | [`tuned`] | document 01 in safe Rust, written to be quick |
-//! | [`version`] | a version of the check, the calls and claim's search, in Rust or in a shared library |
+//! | [`version`] | a version of the check, the calls, start and tick, and claim's search, in Rust or in a shared library |
 //! | [`compare`] | a version against the model |
 //! | [`cases`] | the boards and the calls that are timed |
 //! | [`timing`] | how long something takes |

@@ -1,9 +1,10 @@
-//! bench [--quick] PROVED.so [BEFORE.so]: the table of docs/BENCHMARKS.md on standard output. BEFORE is another library, such as
+//! bench [--quick] PROVED.so [BEFORE.so]: the tables of docs/BENCHMARKS.md on standard output. BEFORE is another library, such as
 //! that of the landing before.
 //!
 //! First all versions but BEFORE are compared on many boards, damaged ones among them, and all on the boards that are timed. They
 //! must give the same answers and the same bytes, or the run ends there; only BEFORE may give 2 without the rule, have no search
-//! by itself, or know boards only where byte 1 is zero: it is lent those.
+//! by itself or no timer, or know boards only where byte 1 is zero: it is lent those.
+use std::collections::BTreeMap;
 use std::env::args;
 use std::process::ExitCode;
 
@@ -39,21 +40,47 @@ fn table(quick: bool, proved: &str, before: Option<&String>) -> Result<(), Strin
     let mut versions = vec![("proved", proved), ("plain", PLAIN), ("tuned", TUNED)];
     versions.splice(1..1, before.map(|before| ("before", before)));
     let (names, versions): (Vec<_>, Vec<_>) = versions.into_iter().unzip();
-    let timing = Timing::new(quick);
+    print_tables(&rows, &names, &versions, &Timing::new(quick));
+    Ok(())
+}
+
+/// The times, and then those of start and tick against the check.
+fn print_tables(rows: &[Case], names: &[&str], versions: &[Version], timing: &Timing) {
     let ratios: Vec<String> = names[1..].iter().map(|name| format!("proved / {name}")).collect();
     println!("| ns | {} | {} |", names.join(" | "), ratios.join(" | "));
     println!("|{}", "---|".repeat(1 + names.len() + ratios.len()));
-    rows.iter().for_each(|case| print_row(case, &timing.of_case(case, &versions)));
+    let mut timed = BTreeMap::new();
+    for case in rows {
+        let times = timing.of_case(case, versions);
+        print_row(case, &times);
+        timed.insert(case.name, times);
+    }
+    println!("\n| times the check alone | {} |", names.join(" | "));
+    println!("|{}", "---|".repeat(1 + names.len()));
+    for case in rows {
+        case.check.iter().for_each(|check| print_ratios(case, &timed[case.name], &timed[check]));
+    }
     println!("\nThe plain sum of a board's bytes takes {:.0} ns.", timing.of_sum());
-    Ok(())
 }
 
 /// A time below 100 ns has a decimal; what cannot be asked has a dash.
 fn print_row(case: &Case, times: &[Option<f64>]) {
-    let cell = |told: Option<String>| told.unwrap_or("-".to_string());
     let digits = |time: f64| if time < 99.95 { 1 } else { 0 };
-    let times_told: Vec<String> = times.iter().map(|time| cell(time.map(|time| format!("{time:.*}", digits(time))))).collect();
-    let ratio = |time: &Option<f64>| Some(format!("{:.2}", times[0]? / (*time)?));
-    let ratios: Vec<String> = times[1..].iter().map(|time| cell(ratio(time))).collect();
-    println!("| {} | {} | {} |", case.name, times_told.join(" | "), ratios.join(" | "));
+    let told: Vec<String> = times.iter().map(|time| cell(time.map(|time| format!("{time:.*}", digits(time))))).collect();
+    let ratios: Vec<String> = times[1..].iter().map(|time| ratio(times[0], *time)).collect();
+    println!("| {} | {} | {} |", case.name, told.join(" | "), ratios.join(" | "));
+}
+
+/// Each version's time against its own check of the same boards.
+fn print_ratios(case: &Case, times: &[Option<f64>], checks: &[Option<f64>]) {
+    let ratios: Vec<String> = times.iter().zip(checks).map(|(time, check)| ratio(*time, *check)).collect();
+    println!("| {} | {} |", case.name, ratios.join(" | "));
+}
+
+fn ratio(time: Option<f64>, other: Option<f64>) -> String {
+    cell(time.zip(other).map(|(time, other)| format!("{:.2}", time / other)))
+}
+
+fn cell(told: Option<String>) -> String {
+    told.unwrap_or("-".to_string())
 }
