@@ -3,7 +3,7 @@
 -- Assumes nothing.
 use mathlib.Core.Path.{_≡_, refl, sym, ap, _∙_, subst}
 use mathlib.Core.List.{List, [], map}
-use Prim.Native.Nat.{ℕ}
+use Prim.Native.Nat.{ℕ, _+_}
 use native.Mathlib.Omega.{arith}
 use lib.ListN.{length, length-map}
 use Rattle.board.specs.declared.numbers.Size.{Size}
@@ -18,15 +18,15 @@ use Rattle.paper.specs.declared.answer.Answer.the-variants.{Accepted, Refused}
 use Rattle.paper.specs.Refusals.{Test, Verdict, Go, given}
 use Rattle.paper.specs.Outcomes as paper
 use Rattle.kept.specs.Settled.{Settled}
-use Rattle.timing.specs.Timing.{startOwn, started, startedTimer, nextNow, returned, ticked, Timed, accepting, timed}
+use Rattle.timing.specs.Timing.{startOwn, lowestEntry, wrapped, started, startedTimer, nextNow, returned, freed, ticked, Timed, accepting, timed}
 use Rattle.timing.specs.Events.{Event, Called, Started, Ticked, happen}
 use Rattle.timing.proofs.Theorems.{start-own, tick-goes}
 use Rattle.ticked.specs.Claims.{TimerSizes, Passing, FittingEvent}
-use Rattle.ticked.proofs.Starting.{started-settled}
+use Rattle.ticked.proofs.Starting.{start-row, start-settled}
 use Rattle.ticked.proofs.Returning.{Entered, returned-settled}
-use Rattle.ticked.proofs.Buffers.{good-entered}
+use Rattle.ticked.proofs.Buffers.{says-goodTimer, matches-entered}
 use Rattle.ticked.proofs.Theorems.{events-stay-passing}
-use Rattle.history.specs.Machine.{Plain, Played, Result}
+use Rattle.history.specs.Machine.{Plain, Played, Result, step}
 use Rattle.history.specs.Clockwork as clock
 use Rattle.history.specs.Clockwork.{Clocked, Happening, unlessRefused, happened, happens}
 use Rattle.history.proofs.Named.{Named}
@@ -62,18 +62,21 @@ left-timer s t w n a e i = by a ∙ ap (λ (x : Answer). unlessRefused x (timerO
 -- ---- start and tick alike: o and r are what comes of them on the bytes and on the machine, t the timer where they are accepted
 ends-agree : (z : Size) (s : List ℕ) (t : Timer) (o : paper.Outcome) (r : Result) → Word (t .ticks) → length (t .entries) ≡ 16
     → Ended z o r → Passing z (timed o s t .board) (timed o s t .timer) → Agree z (timed o s t) (happened r (timerOf s) t)
-ends-agree z s t o r w n e p = (e .answers, record {
-  board = record {
-    bytes = p .bytes;
-    sound = p .sound;
-    order = e .order;
-    queues = e .queues;
-    settled = e .settled;
-    same = e .same;
-  };
-  passing = p;
-  timer = left-timer s t w n (o .answer) (r .answer) (e .answers);
-})
+ends-agree z s t o r w n e p = (
+  e .answers,
+  record {
+    board = record {
+      bytes = p .bytes;
+      sound = p .sound;
+      order = e .order;
+      queues = e .queues;
+      settled = e .settled;
+      same = e .same;
+    };
+    passing = p;
+    timer = left-timer s t w n (o .answer) (r .answer) (e .answers);
+  },
+)
 
 module _ (z : Size) (a : TimerSizes z) (l s : List ℕ) (p : Plain) (agreeing : Agreeing z l p) (pass : Passing z l s) where
   abbrev b : Board
@@ -104,18 +107,18 @@ module _ (z : Size) (a : TimerSizes z) (l s : List ℕ) (p : Plain) (agreeing : 
       let row : Plain → Played = λ x. clock.playStart z x (x .running) t m delay in
       let ends = body-ends tests (started b m) (agreeing .queues) row
       (λ i k n w. start-alike z b _ _ (a .sizes) (agreeing .settled) i k n w (b .running) t m delay)
-      (λ g. started-settled z b _ _ (agreeing .settled) (b .running) t m delay g) in
+      (λ g. start-settled z b _ _ (b .running) t m delay (a .sizes) (agreeing .settled) (start-row z b (b .running) t m delay g)) in
       ends-agree z s (startedTimer t m delay) _ _ (ticks-word s (pass .timerBytes))
-      (length-put (t .entries) _ _ ∙ length-entries s)
+      (length-put (t .entries) (lowestEntry t) (record { message = m; due = wrapped (t .ticks + delay) }) ∙ length-entries s)
       (subst (λ (v : Verdict). Ended z (paper.judge l v (paper.dispatch z l (paper.undispatched 0 (started b m)))) (clock.playedOut p (row p)))
-      (sym (start-own z l s (b .running) m delay (pass .bytes .long) (pass .sound) (pass .good))) ends)
+      (sym (start-own z l b s (b .running) m delay (pass .bytes .long) (pass .sound) (pass .good))) ends)
       (events-stay-passing z l s (Started m delay) a fits pass)
 
   tick-agrees : Agree z (happen z l s Ticked) (happens z machine Ticked)
   tick-agrees =
       let at : ℕ = nextNow t in
       let d : Board = returned z at (t .entries) b in
-      let entered : Entered b (t .entries) = good-entered z l s (pass .good) in
+      let entered : Entered b (t .entries) = matches-entered b (t .entries) (says-goodTimer b s .0 (pass .good) .1) in
       let ends = body-ends [] d _ (clock.playTick t)
       (λ i k n w. record {
         verdict = refl;
@@ -123,9 +126,9 @@ module _ (z : Size) (a : TimerSizes z) (l s : List ℕ) (p : Plain) (agreeing : 
         same = λ g. returned-same z at _ (a .sizes) (t .entries) b _ (plainOf b i k n) (agreeing .settled) entered (same-at i k n refl w);
       })
       (λ g. returned-settled z at _ (a .sizes) (t .entries) b _ (agreeing .settled) entered) in
-      ends-agree z s (ticked t) _ _ (omega arith) (length-map _ (t .entries) ∙ length-entries s)
+      ends-agree z s (ticked t) _ _ (omega arith) (length-map (t .entries) (freed at) ∙ length-entries s)
       (subst (λ (v : Verdict). Ended z (paper.judge l v (paper.dispatch z l (paper.undispatched 0 d))) (clock.playedOut p (clock.playTick t p)))
-      (sym (tick-goes z l s (pass .bytes .long) (pass .sound) (pass .good))) ends)
+      (sym (tick-goes z l b s (pass .bytes .long) (pass .sound) (pass .good))) ends)
       (events-stay-passing z l s Ticked a tt pass)
 
 -- ---- an event
@@ -141,11 +144,13 @@ event-agrees z a l s x event fits c =
     by : (event : Event) → FittingEvent event
         → Agree z (happen z l s event) (happens z (record { plain = x .plain; timer = timerOf s }) event)
     by (Called call) fits =
-        let o = call-agrees z (a .sizes) l (x .plain) call fits (c .board) in
-        (o .0, record {
-          board = o .1;
-          passing = events-stay-passing z l s (Called call) a fits (c .passing);
-          timer = sym (unless-same _ (timerOf s));
-        })
+        let o = call-agrees z (a .sizes) l (x .plain) call fits (c .board) in (
+          o .0,
+          record {
+            board = o .1;
+            passing = events-stay-passing z l s (Called call) a fits (c .passing);
+            timer = sym (unless-same (step z (x .plain) call .answer) (timerOf s));
+          },
+        )
     by (Started m delay) fits = start-agrees z a l s (x .plain) (c .board) (c .passing) m delay fits
     by Ticked fits = tick-agrees z a l s (x .plain) (c .board) (c .passing)

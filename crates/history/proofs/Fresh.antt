@@ -1,21 +1,29 @@
--- The fresh board agrees with the plain machine at the start.
+-- The fresh board and a buffer of zeros agree with the plain machine at the start.
 -- Assumes nothing.
-use mathlib.Core.Path.{_≡_, refl, sym}
+use mathlib.Core.Path.{_≡_, refl, sym, ap, _∙_, subst}
+use mathlib.Core.Bool.{true≢false}
 use mathlib.Core.List.{[]}
 use Prim.Native.Nat.{ℕ}
+use lib.Dec.{lit<}
 use Rattle.board.specs.declared.numbers.Size.{Size}
+use Rattle.board.specs.Records.{Byte}
+use Rattle.board.specs.Places.{isOnTimer}
 use Rattle.board.specs.Board.{boardOf}
+use Rattle.timer.specs.Timer.{timerLength, timerOf}
 use Rattle.paper.specs.Outcomes.{blank}
 use Rattle.kept.specs.Claims.{Sizes}
-use Rattle.kept.proofs.Fresh.{fresh-zeros, fresh-task, fresh-message, fresh-place, fresh-bytes, fresh-settled, fresh-passes}
+use Rattle.kept.proofs.Fresh.{zeros-replicate, fresh-zeros, fresh-task, fresh-message, fresh-place, fresh-bytes, fresh-settled, fresh-passes}
 use Rattle.history.specs.Ranking.{Names}
+use Rattle.ticked.proofs.Buffers.{Matches, says-goodTimer}
 use Rattle.history.specs.Machine.{machine, start}
-use Rattle.history.specs.Claims.{sheetOf, blockOf}
+use Rattle.history.specs.Clockwork.{begin}
+use Rattle.history.specs.Claims.{sheetOf, blockOf, zeros}
 use Rattle.history.proofs.Rolls.{Roll}
 use Rattle.history.proofs.Places.{whoseOf}
 use Rattle.history.proofs.Named.{Named}
 use Rattle.history.proofs.Machines.{plainOf}
 use Rattle.history.proofs.Steps.{Agreeing}
+use Rattle.history.proofs.Events.{Clockwise}
 
 module _ (z : Size) where
   -- read as a machine it is the one at the start
@@ -50,4 +58,25 @@ module _ (z : Size) where
     queues = λ k. [];
     settled = fresh-settled z;
     same = record { installed = []; placed = []; time = 0; is = sym fresh-plain; named = start-named };
+  }
+
+  -- no message is on the timer, and no entry is used
+  fresh-matches : Matches (boardOf z (blank z)) (timerOf zeros .entries)
+  fresh-matches = record {
+    zero = refl;
+    once = tt;
+    exact = λ m. ((λ i. absurd i), λ on. absurd (true≢false (sym (ap isOnTimer on) ∙ ap isOnTimer (fresh-place z m))));
+  }
+
+  -- so with a buffer of zeros
+  pub fresh-clockwise : Sizes z → Clockwise z (blank z) zeros begin
+  fresh-clockwise a = record {
+    board = fresh-agrees a;
+    passing = record {
+      bytes = fresh-bytes z;
+      sound = fresh-passes z a;
+      timerBytes = record { long = refl; bytes = λ i. subst Byte (sym (zeros-replicate timerLength i)) (lit< tt) };
+      good = says-goodTimer (boardOf z (blank z)) zeros .1 (refl, fresh-matches);
+    };
+    timer = refl;
   }

@@ -15,4 +15,8 @@ pub mod Calls
 pub mod Dispatch
 pub mod Timers
 pub mod Steps
+pub mod Events
 pub mod Fresh
+pub mod Theorems
+pub mod Coded
+mod Cases

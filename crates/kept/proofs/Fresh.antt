@@ -29,10 +29,10 @@ use Rattle.kept.proofs.Fitting.{fits-board}
 use Rattle.kept.proofs.Theorems.{settled-passes}
 
 -- ---- lists of zeros
-abbrev Zeros : List ℕ → Type 0
+abbrev pub Zeros : List ℕ → Type 0
 Zeros l = (i : ℕ) → getD l i 0 ≡ 0
 
-zeros-replicate : (n : ℕ) → Zeros (replicate n 0)
+pub zeros-replicate : (n : ℕ) → Zeros (replicate n 0)
 zeros-replicate zero i = refl
 zeros-replicate (suc n) zero = refl
 zeros-replicate (suc n) (suc i) = zeros-replicate n i

@@ -2,6 +2,8 @@
 -- Assumes nothing.
 use mathlib.Core.Path.{ap, _∙_}
 use native.Mathlib.Omega.{arith}
+use lib.Dec.{lit<}
+use Rattle.board.specs.Numbers.{small}
 use Rattle.board.specs.declared.numbers.Size.{Size}
 use Rattle.board.specs.Board.{Board, boardOf}
 use Rattle.timer.specs.Timer.{Timer, timerOf}
@@ -9,7 +11,7 @@ use Rattle.paper.specs.Rules.{runsNext}
 use Rattle.paper.specs.Refusals.{Verdict, given}
 use Rattle.paper.specs.Outcomes.{Outcome, undispatched, judge, dispatch, effect}
 use Rattle.linked.proofs.Theorems.{one-whereabouts}
-use Rattle.kept.proofs.Theorems.{passing-stays-passing}
+use Rattle.kept.proofs.Theorems.{passing-stays-passing, small-sizes}
 use Rattle.kept.proofs.Timers.{calls-leave-the-timer}
 use Rattle.timing.specs.Timing.{startRow, tickRow, started, startedTimer, nextNow, returned, ticked, Timed, start, tick}
 use Rattle.timing.specs.Events.{Called, Started, Ticked}
@@ -21,6 +23,10 @@ use Rattle.ticked.proofs.Buffers.{good-stays, matches-entered}
 use Rattle.ticked.proofs.OneEntry.{one-timer}
 use Rattle.ticked.proofs.Leaving.{passing-left, passed-passing, start-leaves, tick-leaves}
 use Rattle.ticked.proofs.Leaving.{left-accepts, stays-passing, not-stuck}
+
+-- the small board's sizes are such that all promises hold
+pub small-timer-sizes : TimerSizes small
+small-timer-sizes = record { sizes = small-sizes; byte = lit< tt }
 
 -- ---- an event leaves a board and a buffer that pass
 pub events-stay-passing : EventsStayPassing
