@@ -3,6 +3,7 @@ pub mod NamedCases
 pub mod Notches
 mod Served
 mod Samplers
+mod Timers
 pub mod Rows
 pub mod Which
 pub mod Theorems

@@ -1,2 +1,4 @@
+pub mod Cases
+pub mod Faults
 pub mod Theorems
 pub mod Histories
