@@ -12,7 +12,7 @@ use Rattle.paper.specs.declared.answer.Answer.{Answer}
 use Rattle.paper.specs.declared.answer.Answer.the-variants.{Accepted}
 use Rattle.paper.specs.Outcomes.{blank}
 use Rattle.paper.proofs.Slips.{tiny, ok}
-use Rattle.timing.specs.Timing.{Timed, startedTimer, ticked, tick}
+use Rattle.timing.specs.Timing.{Timed, startedTimer, freed, ticked, tick}
 use Rattle.timing.specs.Events.{Event, Called, Started, Ticked, RanAll, runAll}
 
 -- ---- a timer with these entries and free ones behind them
@@ -66,6 +66,10 @@ case-lowest-entry :
     ≡ buffer 1 (fires 1 4 ∷ fires 2 5 ∷ [])
 case-lowest-entry = refl
 
+-- a start that is refused, of a message that is not held, takes no entry
+case-refused-start : after 0 (Started 3 5 ∷ []) .timer ≡ buffer 0 []
+case-refused-start = refl
+
 -- ---- tick: what is due
 -- now runs on past 65,535 to 0, and what is due at 0 comes back then
 case-now-wraps : after 65535 (Started 1 1 ∷ Ticked ∷ []) .timer ≡ buffer 0 []
@@ -88,6 +92,10 @@ case-not-past-entry = refl
 -- a free entry does nothing when now becomes 0
 case-free-at-0 : tick tiny holds (buffer 65535 []) ≡ record { answer = ok; board = holds; timer = buffer 0 [] }
 case-free-at-0 = refl
+
+-- nor at the due word that a faulty one has
+case-free-stays : map (freed 5) (fires 0 5 ∷ fires 1 5 ∷ []) ≡ fires 0 5 ∷ noEntry ∷ []
+case-free-stays = refl
 
 -- due now: the next tick is too late for it
 abbrev dueNow : ℕ → Timed
