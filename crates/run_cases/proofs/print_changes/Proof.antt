@@ -7,10 +7,10 @@ use Rattle.run_cases.proofs.print_changes.Statement.{statement}
 use Rattle.run_cases.proofs.print_changes.Tie as tie
 
 abbrev Inv-loop : tie.InvT-loop
-Inv-loop before after n i₀ i = (i ≤ n) × (n ≡ length before)
+Inv-loop mark before after n i₀ i = (i ≤ n) × (n ≡ length before)
 
 abbrev μ-loop : tie.MeasureT-loop
-μ-loop before after n i₀ i = n - i
+μ-loop mark before after n i₀ i = n - i
 
 pub print-changes-spec : {M : Type 1} → statement M
 print-changes-spec =
