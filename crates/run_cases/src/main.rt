@@ -1,9 +1,9 @@
-// PROGRAM. Cases from standard input, one after the other: the length of the board as a word, a call of nine bytes (kind, three words, STAT,
-// PRIO), and the board. Kind 0 checks the board, kind 254 makes it fresh, kind 253 converts an old one; kind 200 starts a timer for the
-// message and with the delay of the first two words, and kind 201 is a tick: with these two, the length of the timer buffer as a word and
-// the buffer come behind the board. For each it writes a line: refusal number, value, running, delivered, broken rule and its record, then
-// each byte of the board that changed, as place=value, and each of the timer buffer, as tplace=value. So any other maker's answers can be
-// compared with ours as text.
+// PROGRAM. Cases from standard input, one after the other: the length of the board as a word, a call of nine bytes (kind, three
+// words, STAT, PRIO), and the board. Kind 0 checks the board, kind 254 makes it fresh, kind 253 converts an old one; kind 200
+// starts a timer for the message and with the delay of the first two words, and kind 201 is a tick: with these two, the length of
+// the timer buffer as a word and the buffer come behind the board. For each it writes a line: refusal number, value, running,
+// delivered, broken rule and its record, then each byte of the board that changed, as place=value, and each of the timer buffer,
+// as tplace=value. So any other maker's answers can be compared with ours as text.
 ghost use Prim.Native.Nat.{_<_};
 use for_c::asked::Asked;
 use for_c::asked::call_of_kind;
@@ -195,7 +195,8 @@ fn on_told_timer(request: Request, before: &[u8], after: &mut [u8]) -> bool {
     on_timer(request, before, after, word(length[0], length[1]))
 }
 
-// The board read, and the rest of the case; false where it is cut short. Where no timer buffer is handed over there is none to read.
+// The board read, and the rest of the case; false where it is cut short. Where no timer buffer is handed over there is none to
+// read.
 fn with_board(request: Request, before: &mut [u8], after: &mut [u8]) -> bool {
     if io::read_full(STDIN_FILENO, before) < before.len() {
         print_text(b"error: the last board is cut short\n");
