@@ -27,7 +27,7 @@ pub enum Finding {
 // A program reads so many bytes at most: more are not counted.
 const MOST: usize = 65536;
 
-fn tell_bytes(n: usize) {
+pub(crate) fn tell_bytes(n: usize) {
     thousands(n as u64);
     if n == 1 {
         text(b" byte");

@@ -63,7 +63,7 @@ pub fn thousands(n: u64) -> usize
     decimal(n / 1000) + text(&[b',', last_digit(n / 100), last_digit(n / 10), last_digit(n)])
 }
 
-fn last_digit(n: u64) -> u8 {
+pub fn last_digit(n: u64) -> u8 {
     (48 + n % 10) as u8
 }
 

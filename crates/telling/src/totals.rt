@@ -44,7 +44,8 @@ fn lies(l: &[u8], m: u16, low: u8, high: u8) -> bool
     at <= high
 }
 
-// How many blocks lie at places whose byte is from low to high. Held are 1 to 32, queued 65 to 96.
+// How many blocks lie at places whose byte is from low to high. Held are 1 to 32, queued 65 to 96, on the timer
+// 128.
 pub fn blocks(l: &[u8], low: u8, high: u8) -> u16
     requires { ⌜ total small ≤ length (now l) ⌝ }
     ensures { λ res. ⌜ (res ≡ counted (within (boardOf small (now (l .entry))) low high) 128) × (res ≤ 128) ⌝ }
@@ -83,6 +84,8 @@ pub fn tell_blocks(l: &[u8]) -> u16
     decimal(blocks(l, 1, 32) as u64);
     text(b" held, ");
     decimal(blocks(l, 65, 96) as u64);
-    text(b" queued");
+    text(b" queued, ");
+    decimal(blocks(l, 128, 128) as u64);
+    text(b" on the timer");
     free
 }
