@@ -1,7 +1,9 @@
-// PROGRAM. A board from standard input as tables: the totals, then the tasks in queue order, each with its state, what it holds and what is
-// queued at it. Of a board that breaks a rule the refusal is told, and its records are shown by their numbers; of bytes of another length
-// the refusal alone.
+// PROGRAM. A board from standard input as tables: the totals, then the tasks in queue order, each with its state, what it holds
+// and what is queued at it, and the messages on the timer. Of a board that breaks a rule the refusal is told, and its records are
+// shown by their numbers; of bytes of another length the refusal alone. Where descriptor 3 is open, a timer buffer is read there,
+// and told when its messages are due; or it is refused and shown as it is stored.
 mod lists;
+mod on_timer;
 mod records;
 
 ghost use Prim.Native.Nat.{_≤_};
@@ -20,6 +22,8 @@ use lent::bytes::task_at;
 use libc::STDIN_FILENO;
 use lists::show_held;
 use lists::show_queue;
+use on_timer::show_stored;
+use on_timer::show_timer;
 use paper::answer::Refusal;
 use records::show_records;
 use telling::finding::Finding;
@@ -32,6 +36,9 @@ use telling::print::text;
 use telling::state::print_state;
 use telling::state::state_of;
 use telling::state::tell_bit;
+use telling::timer_buffer::is_lent;
+use telling::timer_buffer::read_timer;
+use telling::timer_buffer::timer_judged;
 use telling::totals::tell_blocks;
 use telling::totals::tell_installed;
 
@@ -114,14 +121,45 @@ fn show_refused(l: &[u8], q: Refusal)
     }
 }
 
-fn show(l: &[u8]) {
+// A board that passes, without a timer buffer.
+fn show_alone(l: &[u8], runs: u16)
+    requires { ⌜ total small ≤ length (now l) ⌝ }
+{
+    show_board(l, runs);
+    show_timer(l, b"");
+}
+
+// The same with the buffer s.
+fn show_with(l: &[u8], runs: u16, s: &[u8])
+    requires { ⌜ total small ≤ length (now l) ⌝ }
+{
+    if timer_judged(l, s) {
+        show_board(l, runs);
+        show_timer(l, s);
+        return;
+    }
+    show_alone(l, runs);
+    show_stored(s);
+}
+
+fn show_passing(l: &[u8], runs: u16, s: &[u8], lent: bool)
+    requires { ⌜ total small ≤ length (now l) ⌝ }
+{
+    if lent {
+        show_with(l, runs, s);
+    } else {
+        show_alone(l, runs);
+    }
+}
+
+fn show(l: &[u8], s: &[u8], lent: bool) {
     let found = judged(l);
     // the readers want to see a whole board; what is shorter was refused with 1
     if l.len() < 1476 {
         return;
     }
     match found {
-        Finding::Passes(runs) => show_board(l, runs),
+        Finding::Passes(runs) => show_passing(l, runs, s, lent),
         Finding::Refused(q) => show_refused(l, q),
     }
 }
@@ -129,5 +167,7 @@ fn show(l: &[u8]) {
 fn main() {
     let mut space = io::large_buffer();
     let n = io::read_full(STDIN_FILENO, &mut space);
-    show(&space[..n]);
+    let mut timer = io::large_buffer();
+    let k = read_timer(&mut timer);
+    show(&space[..n], &timer[..k], is_lent(k));
 }

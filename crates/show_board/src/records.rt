@@ -140,6 +140,9 @@ fn show_place(l: &[u8], p: Place)
         }
         Place::HeldBy(k) => show_at(l, b"held by task ", k),
         Place::QueuedAt(k) => show_at(l, b"queued at task ", k),
+        Place::OnTimer => {
+            text(b"on the timer");
+        }
         Place::Nowhere(b) => {
             text(b"names no task: ");
             hex_byte(b);
