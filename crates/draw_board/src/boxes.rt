@@ -18,7 +18,7 @@ use telling::print::decimal;
 use telling::print::text;
 
 // What a person sees who points at the box.
-fn draw_details(m: u16, u: Message) {
+pub(crate) fn draw_details(m: u16, u: Message) {
     text(b"<title>message ");
     decimal(m as u64);
     text(b", priority ");

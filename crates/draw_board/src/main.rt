@@ -1,6 +1,9 @@
-// PROGRAM. A board from standard input as a picture (SVG): a row for each task in queue order, with its box, its queue as boxes linked by
-// arrows, and what it holds set below. A board that the check refuses is not drawn; its refusal is told.
+// PROGRAM. A board from standard input as a picture (SVG): a row for each task in queue order, with its box, its queue as boxes
+// linked by arrows, and what it holds set below; and a row for the timer with the messages on it. Where descriptor 3 is open, a
+// timer buffer is read there, and each has in how many ticks it is due. A board or a buffer that is refused is not drawn; its
+// refusal is told.
 mod boxes;
+mod on_timer;
 mod page;
 mod rows;
 
@@ -15,6 +18,7 @@ use boxes::draw_queue;
 use lent::bytes::first_task;
 use lent::bytes::task_at;
 use libc::STDIN_FILENO;
+use on_timer::draw_on_timer;
 use page::draw_foot;
 use page::draw_head;
 use page::draw_row;
@@ -24,8 +28,12 @@ use rows::TOP;
 use rows::foot;
 use rows::queue_rows;
 use rows::row_height;
+use rows::timer_height;
 use telling::finding::Finding;
 use telling::finding::judged;
+use telling::timer_buffer::is_lent;
+use telling::timer_buffer::read_timer;
+use telling::timer_buffer::timer_judged;
 
 // The tasks in queue order, each below the one before. A board that passes has no more than 32.
 fn draw_tasks(l: &[u8], runs: u16)
@@ -51,7 +59,19 @@ fn draw_tasks(l: &[u8], runs: u16)
     }
 }
 
-fn draw(l: &[u8]) {
+// A board that passes, and the timer buffer s for it, which is empty where there is none.
+fn draw_board(l: &[u8], runs: u16, s: &[u8])
+    requires { ⌜ total small ≤ length (now l) ⌝ }
+{
+    let y = foot(l);
+    let high = timer_height(l, s);
+    draw_head(l, runs, y + high);
+    draw_tasks(l, runs);
+    draw_on_timer(l, s, y, high);
+    draw_foot(l, y + high);
+}
+
+fn draw(l: &[u8], s: &[u8], lent: bool) {
     let found = judged(l);
     let Finding::Passes(runs) = found else {
         return;
@@ -60,14 +80,19 @@ fn draw(l: &[u8]) {
     if l.len() < 1476 {
         return;
     }
-    let y = foot(l);
-    draw_head(l, runs, y);
-    draw_tasks(l, runs);
-    draw_foot(l, y);
+    if !lent {
+        draw_board(l, runs, b"");
+        return;
+    }
+    if timer_judged(l, s) {
+        draw_board(l, runs, s);
+    }
 }
 
 fn main() {
     let mut space = io::large_buffer();
     let n = io::read_full(STDIN_FILENO, &mut space);
-    draw(&space[..n]);
+    let mut timer = io::large_buffer();
+    let k = read_timer(&mut timer);
+    draw(&space[..n], &timer[..k], is_lent(k));
 }

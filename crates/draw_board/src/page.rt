@@ -37,6 +37,7 @@ fn draw_looks_of_messages() {
     text(
         b".queued rect{fill:#e3eefb;stroke:#3c78c3}.held rect{fill:#fff1d6;stroke:#c98a1b}.lifo rect{stroke-dasharray:4 2}\n",
     );
+    text(b".timer rect,.timed rect{fill:#fbeaf1;stroke:#b3416f}\n");
     text(
         b".no{font-weight:bold}.pr{font-size:10px;text-anchor:end}.label{font-size:10px;text-anchor:end;fill:#9a6a12}\n",
     );
@@ -148,6 +149,19 @@ pub(crate) fn draw_task(k: TaskNo, t: Task, runs: bool) {
     text(b"</g>\n");
 }
 
+// What a box of this look means.
+fn draw_kind(class: &[u8], x: u16, words: &[u8]) {
+    text(b"<g class='");
+    text(class);
+    text(b"' transform='translate(");
+    decimal(x as u64);
+    text(b",2)'><rect width='24' height='14' rx='3'/></g><text class='soft' x='");
+    decimal(x as u64 + 32);
+    text(b"' y='14'>");
+    text(words);
+    text(b"</text>");
+}
+
 // The totals, and what the looks of the boxes mean.
 pub(crate) fn draw_foot(l: &[u8], y: u32)
     requires { ⌜ total small ≤ length (now l) ⌝ }
@@ -156,17 +170,12 @@ pub(crate) fn draw_foot(l: &[u8], y: u32)
     decimal(y as u64 + 4);
     text(b")'><text class='soft' y='14'>");
     tell_blocks(l);
+    text(b"</text>");
+    draw_kind(b"queued", 380, b"queued");
+    draw_kind(b"held", 492, b"held, FIFO");
+    draw_kind(b"held lifo", 618, b"held, LIFO");
+    draw_kind(b"timed", 744, b"on the timer");
     text(
-        b"</text><g class='queued' transform='translate(380,2)'><rect width='24' height='14' rx='3'/></g>",
-    );
-    text(b"<text class='soft' x='412' y='14'>queued</text>");
-    text(b"<g class='held' transform='translate(492,2)'><rect width='24' height='14' rx='3'/></g>");
-    text(b"<text class='soft' x='524' y='14'>held, FIFO</text>");
-    text(
-        b"<g class='held lifo' transform='translate(618,2)'><rect width='24' height='14' rx='3'/></g>",
-    );
-    text(b"<text class='soft' x='650' y='14'>held, LIFO</text>");
-    text(
-        b"<text class='soft' x='744' y='14'>in a box: number of the message, p and its priority</text></g>\n</svg>\n",
+        b"<text class='soft' x='872' y='14'>in a box: its number, p and its priority</text></g>\n</svg>\n",
     );
 }

@@ -1,4 +1,5 @@
-// How high the rows of the picture are. A task's row is as high as its box at least, and has room for the rows of its messages.
+// How high the rows of the picture are. A task's row is as high as its box at least, and has room for the rows of its messages;
+// so has the timer's below them.
 ghost use lib.ListN.{length};
 ghost use Rattle.board.specs.Numbers.{small};
 ghost use Rattle.board.specs.Board.{total};
@@ -18,6 +19,9 @@ pub(crate) const TOP: u32 = 86;
 pub(crate) const BESIDE: u32 = 9;
 
 pub(crate) const ROW: u32 = 44;
+
+// The same of those on the timer, whose boxes are as high as a task's.
+pub(crate) const TIMED_ROW: u32 = 60;
 
 fn rows_of(n: u32) -> u32
     requires { ⌜ n < 65536 ⌝ }
@@ -73,4 +77,19 @@ pub(crate) fn foot(l: &[u8]) -> u32
         left -= 1;
     }
     y
+}
+
+// How high the timer's row is: 0 where there is none, as nothing is on the timer and no buffer is handed over.
+pub(crate) fn timer_height(l: &[u8], s: &[u8]) -> u32
+    requires { ⌜ total small ≤ length (now l) ⌝ }
+    ensures { λ res. ⌜ res ≤ 700000 ⌝ }
+{
+    let n = rows_of(blocks(l, 128, 128) as u32);
+    if 0 < n {
+        return TIMED_ROW * n + 6;
+    }
+    if s.len() == 0 {
+        return 0;
+    }
+    TIMED_ROW + 6
 }
