@@ -169,7 +169,7 @@ WAY_BACK = through(
 
 
 def past(data):
-    """The calls that lead from the fresh board to the board of these bytes, which passes."""
+    """The calls that lead from the fresh board to the board of these bytes, which passes and has no message on the timer."""
     b = Board(data)
     calls = WAY_BACK(b)
     assert not b.first and not b.running and not any(b.places.values()), "the way back does not end at the fresh board"

@@ -1,12 +1,13 @@
 """Boards that pass the check, made from the rules R1 to R7 as `board check --help` lists them, and not by calls: the same every
-time. And the kinds of board that there are, so that a test can say whether it met them all."""
+time. None of them has a message on the timer, but there are ones like them that have. And the kinds of board that there are, so
+that a test can say whether it met them all."""
 import pathlib
 import random
 import struct
 import sys
 
 sys.path.append(str(pathlib.Path(__file__).resolve().parent / "cases"))
-from layout import MESSAGES, RUNNING, TASKS, message, place, task
+from layout import MESSAGES, ON_TIMER, RUNNING, TASKS, message, place, task
 
 WAIT, IWAT, INTQ, DEBUG, MROB, MHBS, TCBB = 128, 64, 16, 8, 4, 2, 1
 ASLEEP = WAIT | IWAT
@@ -94,6 +95,16 @@ def passing_boards(count):
     while len(boards) < count:
         boards[any_board(rng)] = None
     return list(boards)
+
+
+def timed(b):
+    """The board with every held message on the timer that rule 4 lets be there, and the lowest of these, 0 if there is none."""
+    board, lowest = bytearray(b), 0
+    for m in range(MESSAGES, 0, -1):
+        _, prio, _, _, sptr = MESSAGE.unpack_from(b, message(m))
+        if 0 < b[place(m)] < 64 and prio < 0xFE and sptr and b[task(sptr)]:
+            board[place(m)], lowest = ON_TIMER, m
+    return bytes(board), lowest
 
 
 def queue_order(b, tasks):

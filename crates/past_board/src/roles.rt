@@ -1,10 +1,12 @@
-// The parts that tasks have in a history, read off the board: who fills the queues, who is a guest, who claims a message.
+// The parts that tasks have in a history, read off the board: who fills the queues, who is a guest, who claims a message; and
+// whether a message is on the timer, where none of the nineteen calls puts one.
 ghost use Prim.Native.Nat.{_≤_};
 ghost use lib.ListN.{length};
 ghost use Rattle.board.specs.Numbers.{small};
 ghost use Rattle.board.specs.Board.{total};
 use board::numbers::Size;
 use board::places::Place;
+use lent::by_word::is_timed;
 use lent::by_word::message_meant;
 use lent::by_word::place_meant;
 use lent::by_word::task_meant;
@@ -23,6 +25,20 @@ pub(crate) fn who_fills(l: &[u8], runs: u16) -> u16
         let t = task_meant(Size::SMALL, l, k);
         if t.mptr != 0 {
             return k;
+        }
+    }
+    0
+}
+
+// The lowest message that is on the timer, 0 if none is.
+pub(crate) fn first_timed(l: &[u8]) -> u16
+    requires { ⌜ total small ≤ length (now l) ⌝ }
+{
+    let mut m: u16 = 0;
+    while m < 128 {
+        m += 1;
+        if is_timed(Size::SMALL, l, m) {
+            return m;
         }
     }
     0
