@@ -13,7 +13,7 @@ use Rattle.board.specs.declared.numbers.Size.{Size}
 use Rattle.board.specs.declared.records.Task.{Task}
 use Rattle.board.specs.declared.records.Message.{Message}
 use Rattle.board.specs.declared.places.Place.{Place}
-use Rattle.board.specs.declared.places.Place.the-variants.{Free, HeldBy, QueuedAt}
+use Rattle.board.specs.declared.places.Place.the-variants.{Free, HeldBy, QueuedAt, OnTimer}
 use Rattle.board.specs.Numbers.{taskNo}
 use Rattle.board.specs.Records.{taskOf, taskBytes, messageOf, messageBytes}
 use Rattle.board.specs.Places.{placeOf, placeByte, placeIn, placeBytes}
@@ -21,8 +21,8 @@ use Rattle.board.specs.Board.{Area, total, taskArea, messageArea, placeA
 use Rattle.board.specs.Board.{withFirst, withRunning, withTask, withMessage, withPlace}
 use Rattle.board.specs.Writes.{putIn, putFirst, putRunning, putTask, putMessage, putPlace}
 use Rattle.board.proofs.Numbered.{map-put}
-use Rattle.board.proofs.Pieces.{pieces-put, pieces-before, pieces-behind, take-putIn, getD-putIn}
-use Rattle.board.proofs.Codec.{task-back, message-back, place-held, place-queued}
+use Rattle.board.proofs.Pieces.{pieces-put, pieces-before, pieces-behind, take-putIn, getD-putIn, outside-above}
+use Rattle.board.proofs.Codec.{task-back, message-back, place-held, place-queued, place-timer}
 
 -- ---- any area
 -- a record's bytes written are that record written
@@ -136,3 +136,9 @@ module _ (z : Size) (l : List ℕ) where
         let b : 64 + k < 256 = omega arith in
         board-put-place m (QueuedAt (taskNo k))
         ∙ ap (withPlace (boardOf z l) m) (ap (placeOf z) (mod-eq-of-lt b) ∙ place-queued z k h n s)
+
+    -- on the timer, on a board whose places don't meet it
+    pub board-put-timer : (m : ℕ) → z .tasks ≤ 63 → boardOf z (putPlace z l m OnTimer) ≡ withPlace (boardOf z l) m OnTimer
+    board-put-timer m s =
+        board-put-place m OnTimer
+        ∙ ap (withPlace (boardOf z l) m) (place-timer z 128 refl (outside-above (z .tasks) 128 (omega arith)) (outside-above (z .tasks) 64 (omega arith)))

@@ -10,14 +10,14 @@ use Rattle.board.specs.declared.numbers.Size.{Size}
 use Rattle.board.specs.declared.records.Task.{Task}
 use Rattle.board.specs.declared.records.Message.{Message}
 use Rattle.board.specs.declared.places.Place.{Place}
-use Rattle.board.specs.declared.places.Place.the-variants.{Free, HeldBy, QueuedAt}
+use Rattle.board.specs.declared.places.Place.the-variants.{Free, HeldBy, QueuedAt, OnTimer}
 use Rattle.board.specs.Numbers.{taskNo, Numbered}
 use Rattle.board.specs.Records.{taskBytes, messageBytes}
 use Rattle.board.specs.Places.{placeBytes}
 use Rattle.board.specs.Board.{Board, total, boardOf, taskArea, messageArea, placeArea, withFirst, withRunning, withTask, withMessage, withPlace}
 use Rattle.board.specs.Writes.{putFirst, putRunning, putTask, putMessage, putPlace}
 use Rattle.board.proofs.Pieces.{length-putIn}
-use Rattle.board.proofs.Written.{board-put-first, board-put-running, board-put-task, board-put-message, board-put-free, board-put-held, board-put-queued}
+use Rattle.board.proofs.Written.{board-put-first, board-put-running, board-put-task, board-put-message, board-put-free, board-put-held, board-put-queued, board-put-timer}
 use Rattle.paper.specs.Changes.{hold}
 use Rattle.stores.specs.Changes as changes
 
@@ -70,6 +70,9 @@ module _ (z : Size) (l : List ℕ) (e : length l ≡ total z) where
   pub comes-held : (m k : ℕ) → Numbered (z .tasks) k → z .tasks ≤ 63
       → Comes z (putPlace z l m (HeldBy (taskNo k))) (withPlace (boardOf z l) m (HeldBy (taskNo k)))
   comes-held m k n s = (length-place m (HeldBy (taskNo k)), board-put-held z l e m k (n .0) (n .1) s)
+
+  pub comes-timed : (m : ℕ) → z .tasks ≤ 63 → Comes z (putPlace z l m OnTimer) (withPlace (boardOf z l) m OnTimer)
+  comes-timed m s = (length-place m OnTimer, board-put-timer z l e m s)
 
   pub comes-queued : (m k : ℕ) → Numbered (z .tasks) k → z .tasks ≤ 63
       → Comes z (putPlace z l m (QueuedAt (taskNo k))) (withPlace (boardOf z l) m (QueuedAt (taskNo k)))

@@ -1,9 +1,9 @@
-mod Comes
+pub mod Comes
 mod Behind
-mod Links
+pub mod Links
 mod Queues
 mod Order
-mod Bodies
-mod Next
+pub mod Bodies
+pub mod Next
 mod Calls
 pub mod Theorems

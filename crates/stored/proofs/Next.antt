@@ -23,9 +23,9 @@ use Rattle.paper.specs.Rules.{present, nextTask, order, taskNumber, ready, outr
 use Rattle.paper.specs.Effects.{install, cancelTask}
 use Rattle.paper.specs.Outcomes.{body}
 use Rattle.linked.specs.Linked.{Listing}
-use Rattle.linked.specs.Sound.{RunsRightly}
+use Rattle.linked.specs.Sound.{RunsRightly, Leads}
 use Rattle.linked.proofs.Running.{ready-says}
-use Rattle.linked.proofs.Chosen.{leads-may, says-mayRun, first-only}
+use Rattle.linked.proofs.Chosen.{leads-may, says-mayRun, first-only, first-runs}
 use Rattle.kept.specs.Settled.{Awake}
 use Rattle.kept.specs.Touched.{touched, relinks}
 use Rattle.kept.proofs.Bodies.{body-frame}
@@ -119,3 +119,30 @@ module _ (z : Size) (b d : Board) (c w : ℕ) (right : RunsRightly b c) (tasks :
       step true r true e = overtaken r e
       step true r false e = goes-on r e
       step false r u e = rw r
+
+-- ---- where it is the first ready task that is compared with c, nothing need be known of what was before
+pub first-next : (z : Size) (d : Board) (c : ℕ) → length (d .tasks) ≡ z .tasks
+    → Listing (nextTask d) (taskNumber d) (d .first) (order z d) (λ k. present d k ≡ true) → d .running ≡ c
+    → then-on z d c (firstReady z d) ≡ runsNext z d
+first-next z d c tasks listed ran =
+    step (ready d c) refl (outranks d c f) refl ∙ ap (λ (k : ℕ). cond (mayRun z d k) k (firstReady z d)) (sym ran)
+  where
+    f : ℕ
+    f = firstReady z d
+
+    -- f is ready and has the smallest number
+    first : ready d c ≡ true → Leads d f
+    first r = first-runs z d tasks listed .leads (λ e. true≢false (sym r ∙ first-runs z d tasks listed .nobody .0 e c))
+
+    step : (t : Bool) → ready d c ≡ t → (u : Bool) → outranks d c f ≡ u → cond t (cond u f c) (firstReady z d) ≡ cond (mayRun z d c) c (firstReady z d)
+    step true r true e =
+        let (awake, less) = both (ready d f) (ltb (taskNumber d f) (taskNumber d c)) e in
+        let below = ltb-true (taskNumber d f) (taskNumber d c) less in
+        let not-c = refuted (mayRun z d c) (λ m. let x = says-mayRun z d tasks c .0 m .smallest f awake in absurd (omega (arith, below, x))) in
+        rw not-c
+    step true r false e =
+        let least = first r in
+        let above = ltb-false (taskNumber d f) (taskNumber d c) (ap (λ (t : Bool). t && ltb (taskNumber d f) (taskNumber d c)) (sym (least .awake)) ∙ e) in
+        rw (leads-may z d c (record { awake = r; smallest = λ j g. omega (arith, above, least .smallest j g) }))
+    step false r u e = rw r
+
