@@ -2,7 +2,7 @@
 -- Assumes nothing.
 use mathlib.Core.Path.{_≡_, refl, sym, ap, _∙_, subst}
 use mathlib.Core.Logic.{inl}
-use mathlib.Core.Bool.{Bool, true, false, cond, _||_, true≢false}
+use mathlib.Core.Bool.{Bool, true, false, cond, _||_}
 use mathlib.Core.List.{List, [], _∷_}
 use Prim.Native.Nat.{ℕ}
 use lib.ListN.{length}
@@ -13,7 +13,7 @@ use Rattle.board.specs.declared.places.Place.the-variants.{OnTimer}
 use Rattle.board.specs.Numbers.{outside, Numbered}
 use Rattle.board.specs.Places.{isQueued}
 use Rattle.board.specs.Board.{Board, total, boardOf, message, place}
-use Rattle.board.proofs.Pieces.{within-outside}
+use Rattle.board.proofs.Pieces.{neither, within-outside}
 use Rattle.timer.specs.declared.entry.Entry.{Entry}
 use Rattle.timer.specs.Timer.{isDue}
 use Rattle.paper.specs.Rules.{queue}
@@ -107,9 +107,6 @@ returned-running z at (e ∷ es) b = returned-running z at es _ ∙ step (isDue 
 -- and the board, where nothing is due
 pub none-returned : (z : Size) (at : ℕ) (es : List Entry) (b : Board) → anyDue at es ≡ false → returned z at es b ≡ b
 none-returned z at [] b h = refl
-none-returned z at (e ∷ es) b h = step (isDue at e) refl h
-  where
-    step : (t : Bool) → isDue at e ≡ t → t || anyDue at es ≡ false → returned z at es (cond (isDue at e) (giveBack z b (e .message)) b) ≡ b
-    step true d i = absurd (true≢false i)
-    step false d i =
-        ap (λ (t : Bool). returned z at es (cond t (giveBack z b (e .message)) b)) d ∙ none-returned z at es b i
+none-returned z at (e ∷ es) b h =
+    let (none, rest) = neither (isDue at e) (anyDue at es) h in
+    ap (λ (t : Bool). returned z at es (cond t (giveBack z b (e .message)) b)) none ∙ none-returned z at es b rest
