@@ -1,5 +1,5 @@
--- What code stores for start and for tick, on the bytes l of a board and s of a timer buffer. Contracts of code cite this file; that it
--- comes to the definitions of start and tick is proved (ticked), so no reader needs to believe it.
+-- What code stores for start and for tick, on the bytes l of a board and s of a timer buffer. Contracts of code cite this file;
+-- that it comes to the definitions of start and tick is proved (timer_stored), so no reader needs to believe it.
 --   Reply, Makes            what an inner step answers and leaves of both buffers; a contract's one clause
 --   startingHeld, starting  start behind 18: of a held message m, and of any
 --   startCalled             and dispatch behind it
@@ -62,7 +62,8 @@ abbrev pub starting : Size → List ℕ → List ℕ → ℕ → ℕ → Reply B
 starting z l s m delay = let b = boardOf z l in startBy (given (startOwn z b (b .running) (timerOf s) m delay)) z l s m delay
 
 abbrev pub startCalled : Size → List ℕ → List ℕ → ℕ → ℕ → Timed
-startCalled z l s m delay = let o = starting z l s m delay in behind (finish z (boardOf z l .running) (o .answer) (o .board)) (o .timer)
+startCalled z l s m delay = let o = starting z l s m delay in
+    behind (finish z (boardOf z l .running) (o .answer) (o .board)) (o .timer)
 
 -- ---- a tick
 abbrev pub givenBack : Size → List ℕ → ℕ → List ℕ
@@ -92,4 +93,5 @@ ticking z l s = let t = timerOf s in let at = nextNow t in let d = returnedBytes
 }
 
 abbrev pub tickCalled : Size → List ℕ → List ℕ → Timed
-tickCalled z l s = let o = ticking z l s in behind (finish z (boardOf z l .running) (Done 0 (o .answer)) (o .board)) (o .timer)
+tickCalled z l s = let o = ticking z l s in
+    behind (finish z (boardOf z l .running) (Done 0 (o .answer)) (o .board)) (o .timer)
