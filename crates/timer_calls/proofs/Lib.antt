@@ -1,2 +1,4 @@
 pub mod Starting
 pub mod Returning
+mod Buffers
+mod BufferTurns

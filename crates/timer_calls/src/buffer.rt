@@ -1,15 +1,16 @@
-// Refusal 18: is this a timer buffer for the board? Each entry is looked at once. The messages on the timer are counted by their places
-// alone: where as many entries are used, each for another message that is there, they are exactly those.
+// Refusal 18: is this a timer buffer for the board? Each entry is looked at once. The messages on the timer are counted by their
+// places alone: where as many entries are used, each for another message that is there, they are exactly those.
 ghost use mathlib.Core.Path.{_≡_};
 ghost use Prim.Native.Nat.{_≤_};
 ghost use lib.ListN.{length};
 ghost use Rattle.board.specs.Board.{boardOf, total};
 ghost use Rattle.timer.specs.Timer.{timerOf};
 ghost use Rattle.timing.specs.Timing.{goodTimer};
-ghost use Rattle.timer_calls.specs.Buffer.{namedBefore, usedOf, timedOf};
+ghost use Rattle.timer_calls.specs.Buffer.{namedBefore, goodAs, usedOf, timedOf};
 use board::numbers::Size;
 use lent::by_word::is_timed;
 use timer::bytes::entry_at;
+use timer::entry::Entry;
 
 // How many entries are used, if each is good.
 pub enum Entries {
@@ -50,7 +51,21 @@ fn named_before(s: &[u8], i: u16, m: u8) -> bool
     false
 }
 
-// Each used entry names a message that is on the timer and that no entry before it names, and each free one is zero.
+// Entry i, which is e: used, it names a message that is on the timer and that no entry before it names; free, it is zero.
+fn good_entry(z: Size, l: &[u8], s: &[u8], i: u16, e: Entry) -> bool
+    requires { ⌜ (total z ≤ length (now l)) × (50 ≤ length (now s)) ⌝ }
+    ensures { λ res. ⌜ res ≡ goodAs (boardOf z (now (l .entry))) (timerOf (now (s .entry))) i e ⌝ }
+{
+    if !e.used() {
+        return e.due == 0;
+    }
+    if !is_timed(z, l, e.message as u16) {
+        return false;
+    }
+    !named_before(s, i, e.message)
+}
+
+// Each entry is looked at, and the used ones are counted.
 fn count_used(z: Size, l: &[u8], s: &[u8]) -> Entries
     requires { ⌜ (total z ≤ length (now l)) × (50 ≤ length (now s)) ⌝ }
     ensures { λ res. ⌜ res ≡ usedOf (boardOf z (now (l .entry))) (timerOf (now (s .entry))) ⌝ }
@@ -60,18 +75,11 @@ fn count_used(z: Size, l: &[u8], s: &[u8]) -> Entries
     while i < 16 {
         i += 1;
         let e = entry_at(s, i);
+        if !good_entry(z, l, s, i, e) {
+            return Entries::Bad;
+        }
         if e.used() {
-            if !is_timed(z, l, e.message as u16) {
-                return Entries::Bad;
-            }
-            if named_before(s, i, e.message) {
-                return Entries::Bad;
-            }
             n += 1;
-        } else {
-            if e.due != 0 {
-                return Entries::Bad;
-            }
         }
     }
     Entries::Used(n)
