@@ -120,10 +120,6 @@ rearranged-length (x ∷ q) l h =
     let r = rearranged-first x q l h in
     omega (arith, rearranged-length q (without x l) (r .1), length-without x l (r .0))
 
--- where one has no repeats, the other has none
-pub rearranged-once : (q l : List ℕ) → rearranged q l ≡ true → Once l → Once q
-rearranged-once q l h d = times-once q (λ y. omega (arith, rearranged-times q l h y, once-times l d y))
-
 -- ---- when it holds
 -- of two lists with no repeats and the same members
 pub once-rearranged : (q l : List ℕ) → Once q → Once l → ((y : ℕ) → In y q ↔ In y l) → rearranged q l ≡ true
