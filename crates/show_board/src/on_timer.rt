@@ -134,6 +134,16 @@ fn show_entry(i: u16, e: Entry) {
     text(b"\n");
 }
 
+fn show_entries(s: &[u8])
+    requires { ⌜ 50 ≤ length (now s) ⌝ }
+{
+    let mut i: u16 = 0;
+    while i < 16 {
+        i += 1;
+        show_entry(i, entry_at(s, i));
+    }
+}
+
 // A buffer that is refused: every entry that is not zero.
 pub(crate) fn show_stored(s: &[u8]) {
     if s.len() != 50 {
@@ -142,9 +152,5 @@ pub(crate) fn show_stored(s: &[u8]) {
     text(b"\ntimer buffer: now ");
     decimal(now_at(s) as u64);
     text(b"\n  entry  message    due\n");
-    let mut i: u16 = 0;
-    while i < 16 {
-        i += 1;
-        show_entry(i, entry_at(s, i));
-    }
+    show_entries(s);
 }
