@@ -71,7 +71,22 @@ fn draw_board(l: &[u8], runs: u16, s: &[u8])
     draw_foot(l, y + high);
 }
 
-fn draw(l: &[u8], s: &[u8], lent: bool) {
+// The buffer is read for a board that passes alone.
+fn draw_passing(l: &[u8], runs: u16)
+    requires { ⌜ total small ≤ length (now l) ⌝ }
+{
+    let mut space = io::large_buffer();
+    let n = read_timer(&mut space);
+    if !is_lent(n) {
+        draw_board(l, runs, b"");
+        return;
+    }
+    if timer_judged(l, &space[..n]) {
+        draw_board(l, runs, &space[..n]);
+    }
+}
+
+fn draw(l: &[u8]) {
     let found = judged(l);
     let Finding::Passes(runs) = found else {
         return;
@@ -80,19 +95,11 @@ fn draw(l: &[u8], s: &[u8], lent: bool) {
     if l.len() < 1476 {
         return;
     }
-    if !lent {
-        draw_board(l, runs, b"");
-        return;
-    }
-    if timer_judged(l, s) {
-        draw_board(l, runs, s);
-    }
+    draw_passing(l, runs);
 }
 
 fn main() {
     let mut space = io::large_buffer();
     let n = io::read_full(STDIN_FILENO, &mut space);
-    let mut timer = io::large_buffer();
-    let k = read_timer(&mut timer);
-    draw(&space[..n], &timer[..k], is_lent(k));
+    draw(&space[..n]);
 }

@@ -142,24 +142,27 @@ fn show_with(l: &[u8], runs: u16, s: &[u8])
     show_stored(s);
 }
 
-fn show_passing(l: &[u8], runs: u16, s: &[u8], lent: bool)
+// The buffer is read for a board that passes alone.
+fn show_passing(l: &[u8], runs: u16)
     requires { ⌜ total small ≤ length (now l) ⌝ }
 {
-    if lent {
-        show_with(l, runs, s);
+    let mut space = io::large_buffer();
+    let n = read_timer(&mut space);
+    if is_lent(n) {
+        show_with(l, runs, &space[..n]);
     } else {
         show_alone(l, runs);
     }
 }
 
-fn show(l: &[u8], s: &[u8], lent: bool) {
+fn show(l: &[u8]) {
     let found = judged(l);
     // the readers want to see a whole board; what is shorter was refused with 1
     if l.len() < 1476 {
         return;
     }
     match found {
-        Finding::Passes(runs) => show_passing(l, runs, s, lent),
+        Finding::Passes(runs) => show_passing(l, runs),
         Finding::Refused(q) => show_refused(l, q),
     }
 }
@@ -167,7 +170,5 @@ fn show(l: &[u8], s: &[u8], lent: bool) {
 fn main() {
     let mut space = io::large_buffer();
     let n = io::read_full(STDIN_FILENO, &mut space);
-    let mut timer = io::large_buffer();
-    let k = read_timer(&mut timer);
-    show(&space[..n], &timer[..k], is_lent(k));
+    show(&space[..n]);
 }
