@@ -30,6 +30,13 @@ use Rattle.stored.proofs.Theorems.{call-effect}
 use Rattle.inner.proofs.Steps.{ends}
 use Rattle.station.proofs.Answers.{sized-not, sized-so, sized-long, sized-whole, today-broken, today-kept, runs-named}
 
+-- what a call asks for, and start and tick too: s is the test of the length, and x what the check of the rules says
+pub runner-asked : (l : List ℕ) {s : Bool} → s ≡ eqb (length l) (total small) → not s ≡ false → {x : Checked}
+    → x ≡ checkedOf Today small (boardOf small l) → {w : TaskMeant} → x ≡ Passes w → Runs small l w
+runner-asked l es h ex p =
+    let (kept, named) = today-kept l ex p in
+    (sized-whole l es h, (named, ap numberOfTask named ∙ runs-named l kept))
+
 -- s is the test of the length
 module _ (l : List ℕ) (call : Call) {s : Bool} (es : s ≡ eqb (length l) (total small)) where
   abbrev b : Board
@@ -58,12 +65,6 @@ module _ (l : List ℕ) (call : Call) {s : Bool} (es : s ≡ eqb (length l) (tot
         ∙ ap (λ (r : Rule). refused l (RuleBroken r)) (sym (n .1)))
 
     module _ {w : TaskMeant} (p : x ≡ Passes w) where
-      -- what a call asks for
-      pub step-asks : Runs small l w
-      step-asks =
-          let (kept, named) = today-kept l ex p in
-          (sized-whole l es h, (named, ap numberOfTask named ∙ runs-named l kept))
-
       -- the call was made
       pub step-made : ((i : ℕ) → getD l i 0 < 256) → Fitting call → {a : Answer} {d : List ℕ} → ((i : ℕ) → getD d i 0 < 256)
           → Ends a d (called small l call) → Ends a d (effect small l call)

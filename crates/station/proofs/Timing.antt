@@ -11,15 +11,15 @@ use Rattle.board.specs.declared.numbers.TaskMeant.{TaskMeant}
 use Rattle.board.specs.Numbers.{small}
 use Rattle.board.specs.Board.{Board, boardOf, total}
 use Rattle.board.proofs.Codec.{Small, small-bytes}
-use Rattle.timer.specs.Timer.{Timer, timerLength}
+use Rattle.timer.specs.Timer.{Timer, timerLength, timerOf}
 use Rattle.paper.specs.declared.answer.Answer.{Answer}
 use Rattle.paper.specs.declared.answer.Answer.the-variants.{Refused}
 use Rattle.paper.specs.declared.answer.Rule.{Rule}
 use Rattle.paper.specs.declared.answer.Refusal.the-variants.{WrongLength, RuleBroken, BadTimer}
 use Rattle.paper.specs.Refusals.{Test, no1, no2, Verdict, Stop, given}
-use Rattle.paper.specs.Outcomes.{Outcome, judge}
+use Rattle.paper.specs.Outcomes.{Outcome, judge, undispatched, dispatch}
 use Rattle.paper.proofs.Rows.{given-stop, given-on}
-use Rattle.timing.specs.Timing.{goodTimer, no18, Timed, timed, EndsTimed, start, tick}
+use Rattle.timing.specs.Timing.{goodTimer, no18, startOwn, started, nextNow, returned, Timed, timed, EndsTimed, start, tick}
 use Rattle.ticked.specs.Claims.{Passing}
 use Rattle.ticked.proofs.Buffers.{says-goodTimer}
 use Rattle.ticked.proofs.Theorems.{small-timer-sizes}
@@ -31,7 +31,7 @@ use Rattle.rules.specs.declared.Checked.{Checked}
 use Rattle.rules.specs.declared.Checked.the-variants.{Passes, Broken}
 use Rattle.rules.specs.Checked.{checkedOf}
 use Rattle.station.proofs.Answers.{sized-not, sized-so, sized-long, today-broken, today-kept}
-use Rattle.station.proofs.Stepping.{step-asks}
+use Rattle.station.proofs.Stepping.{runner-asked}
 
 -- an outcome ends as it says
 ends-timed : {a : Answer} {l s : List ℕ} {o : Timed} → o ≡ record { answer = a; board = l; timer = s } → EndsTimed a l s o
@@ -84,15 +84,25 @@ module _ (l buffer : List ℕ) (tests : List Test) (o : Outcome) (t : Timer) {s 
           let on = given-on (no2 small b) (no18 b buffer ∷ tests) (ap not (today-kept l ex p .0)) in
           ends-timed (ap by (long ∙ on ∙ given-stop (no18 b buffer) tests (ap not (sym eg ∙ not-true g n))))
 
+-- ---- of start, and of tick
+abbrev pub startTests : List ℕ → List ℕ → ℕ → ℕ → List Test
+startTests l buffer m delay = let b = boardOf small l in startOwn small b (b .running) (timerOf buffer) m delay
+
+abbrev pub startBody : List ℕ → ℕ → Outcome
+startBody l m = dispatch small l (undispatched 0 (started (boardOf small l) m))
+
+abbrev pub tickBody : List ℕ → List ℕ → Outcome
+tickBody l buffer = let t = timerOf buffer in dispatch small l (undispatched 0 (returned small (nextNow t) (t .entries) (boardOf small l)))
+
 -- ---- what is asked for, and what was made
 module _ (l buffer : List ℕ) {s : Bool} (es : s ≡ eqb (length l) (total small)) (h : not s ≡ false) {x : Checked}
     (ex : x ≡ checkedOf Today small (boardOf small l)) {w : TaskMeant} (p : x ≡ Passes w) {g : Bool}
-    (eg : g ≡ goodTimer (boardOf small l) buffer) (n : not g ≡ false) where
+    (eg : g ≡ goodTimer (boardOf small l) buffer) (fine : not g ≡ false) where
   good : goodTimer (boardOf small l) buffer ≡ true
-  good = sym eg ∙ not-false g n
+  good = sym eg ∙ not-false g fine
 
   pub timed-asks : Runs small l w × (length buffer ≡ timerLength)
-  timed-asks = (step-asks l es h ex p, says-goodTimer (boardOf small l) buffer .0 good .0)
+  timed-asks = (runner-asked l es h ex p, says-goodTimer (boardOf small l) buffer .0 good .0)
 
   module _ (n : (i : ℕ) → getD l i 0 < 256) (k : (i : ℕ) → getD buffer i 0 < 256) where
     passing : Passing small l buffer

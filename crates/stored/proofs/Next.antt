@@ -145,4 +145,3 @@ first-next z d c tasks listed ran =
         let above = ltb-false (taskNumber d f) (taskNumber d c) (ap (λ (t : Bool). t && ltb (taskNumber d f) (taskNumber d c)) (sym (least .awake)) ∙ e) in
         rw (leads-may z d c (record { awake = r; smallest = λ j g. omega (arith, above, least .smallest j g) }))
     step false r u e = rw r
-

@@ -148,18 +148,23 @@ module _ (z : Size) (at : ℕ) (l₀ s₀ : List ℕ) where
           (λ x. any || (sym (due ∙ ev) x || anyDue at (drop (i + 1) es)))
           ∙ (λ x. any || anyDue at (sym left x)) ∙ g .told
 
-      -- it is: its message went back, and it is freed; the buffer f is of bytes still
+      -- it is freed, which leaves the buffer f
+      entries-next : t ≡ true → {f : List ℕ} {n : Entry} → n ≡ noEntry → f ≡ putEntry s (i + 1) n
+          → timerOf f ≡ timer (timerOf s₀ .ticks) (freedTo at (i + 1) es)
+      entries-next y {n = n} en ef =
+          let none : n ≡ freed at (getD es i noEntry) = en ∙ (λ x. cond (sym (due ∙ y) x) noEntry (getD es i noEntry)) in
+          ap timerOf ef ∙ writes-are-changes s (g .sound .long) .1 (i + 1) n
+          ∙ (λ x. withEntry (g .entries x) (next x) (none x))
+          ∙ ap (timer (timerOf s₀ .ticks)) (freed-more at i es ∙ (λ x. freedTo at (sym next x) es))
+
+      -- it is due: its message went back, and it is freed; the buffer f is of bytes still
       pub going-back : t ≡ true → {d f : List ℕ} {n : Entry} → d ≡ givenBack z l (e .message) → n ≡ noEntry
           → f ≡ putEntry s (i + 1) n → ((j : ℕ) → Byte (getD f j 0)) → Going z at l₀ s₀ d f (i + 1) true
-      going-back y {d = d} {f = f} {n = n} ed en ef small =
+      going-back y {n = n} ed en ef small =
           let long = ap length ef ∙ length-putEntry s (i + 1) n ∙ g .sound .long in
-          let none : n ≡ freed at (getD es i noEntry) =
-          en ∙ (λ x. cond (sym (due ∙ y) x) noEntry (getD es i noEntry)) in
           record {
             sound = record { long = long; bytes = small };
-            entries = ap timerOf ef ∙ writes-are-changes s (g .sound .long) .1 (i + 1) n
-                ∙ (λ x. withEntry (g .entries x) (next x) (none x))
-                ∙ ap (timer (timerOf s₀ .ticks)) (freed-more at i es ∙ (λ x. freedTo at (sym next x) es));
+            entries = entries-next y en ef;
             board = (λ x. returnedBytes z at (drop (i + 1) es) (ed x)) ∙ board-next true y;
             told = sym (or-true any) ∙ any-next true y;
           }

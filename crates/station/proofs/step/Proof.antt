@@ -2,7 +2,7 @@
 use denote.Ref.{now}
 use Rattle.station.proofs.Answers.{sized-whole}
 use Rattle.station.proofs.Fitted.{fitted}
-use Rattle.station.proofs.Stepping.{step-length, step-broken, step-asks, step-made}
+use Rattle.station.proofs.Stepping.{step-length, step-broken, step-made, runner-asked}
 use borrow.Author.Needs.{needs}
 use Rattle.station.proofs.step.Statement.{statement}
 use Rattle.station.proofs.step.Tie as tie
@@ -20,7 +20,7 @@ make-call-requires c κs =
     let r = c .before .before .before .before in
     let s = r .before .before in
     let a = s .before .before .before .before in
-    step-asks (now (a .args .l)) (a .args .call) (s .before .sized .ensures) (s .if1 .left) (r .checked-small .ensures)
+    runner-asked (now (a .args .l)) (s .before .sized .ensures) (s .if1 .left) (r .checked-small .ensures)
     (c .before .before .checked2 .given .1)
 
 returns-2 : tie.Need-returns-2
