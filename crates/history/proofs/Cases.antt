@@ -21,10 +21,10 @@ use Rattle.paper.specs.Outcomes.{blank}
 use Rattle.paper.specs.History.{run}
 use Rattle.paper.proofs.Slips.{tiny, ok}
 use Rattle.history.specs.Ranking.{Entry, Ranking}
-use Rattle.timing.specs.Events.{Event, Called, Started, Ticked, runAll}
+use Rattle.timing.specs.Events.{Event, Called, Started, Ticked}
 use Rattle.history.specs.Machine.{Plain}
 use Rattle.history.specs.Clockwork.{begin}
-use Rattle.history.specs.Claims.{Agrees, plainRun, zeros}
+use Rattle.history.specs.Claims.{Agrees, plainRun}
 
 -- ---- only the first linked
 -- task 1 sends itself messages 1 and 2, the first the more urgent

@@ -2,7 +2,7 @@
 -- afterwards.
 -- Assumes nothing.
 use mathlib.Core.Path.{_≡_, refl, sym, ap, _∙_, subst}
-use mathlib.Core.List.{List, [], map}
+use mathlib.Core.List.{List, []}
 use Prim.Native.Nat.{ℕ, _+_}
 use native.Mathlib.Omega.{arith}
 use lib.ListN.{length, length-map}
@@ -31,7 +31,7 @@ use Rattle.history.specs.Clockwork as clock
 use Rattle.history.specs.Clockwork.{Clocked, Happening, unlessRefused, happened, happens}
 use Rattle.history.proofs.Named.{Named}
 use Rattle.history.proofs.Machines.{plainOf}
-use Rattle.history.proofs.Same.{Same, same-at, same-holds}
+use Rattle.history.proofs.Same.{same-at, same-holds}
 use Rattle.history.proofs.Calls.{Alike}
 use Rattle.history.proofs.Timers.{start-alike, returned-same}
 use Rattle.history.proofs.Steps.{Agreeing, Ended, alike-ends, call-agrees}

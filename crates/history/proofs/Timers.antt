@@ -8,14 +8,14 @@ use mathlib.Core.List.{List, [], _∷_}
 use Prim.Native.Nat.{ℕ}
 use Rattle.links.specs.Chain.{In}
 use Rattle.board.specs.declared.numbers.Size.{Size}
-use Rattle.board.specs.declared.places.Place.the-variants.{HeldBy, OnTimer}
-use Rattle.board.specs.Numbers.{taskNo, Numbered}
+use Rattle.board.specs.declared.places.Place.the-variants.{OnTimer}
+use Rattle.board.specs.Numbers.{Numbered}
 use Rattle.board.specs.Places.{isQueued}
 use Rattle.board.specs.Board.{Board, message, place}
 use Rattle.timer.specs.declared.entry.Entry as waiting
 use Rattle.timer.specs.Timer.{Timer, isDue}
 use Rattle.paper.specs.Effects.{giveBack}
-use Rattle.paper.specs.Refusals.{no7, Go, given}
+use Rattle.paper.specs.Refusals.{no7}
 use Rattle.paper.specs.Outcomes.{undispatched}
 use Rattle.linked.specs.Sound.{PlaceGood}
 use Rattle.kept.specs.Settled.{Settled}
@@ -28,7 +28,7 @@ use Rattle.kept.proofs.Placing.{sender-passed}
 use Rattle.timing.specs.Timing.{no16, no17, startOwn, started, returned}
 use Rattle.ticked.specs.Claims.{dueQueues}
 use Rattle.ticked.proofs.Entries.{due-used, used-in}
-use Rattle.ticked.proofs.Returning.{Entered, Turn, turn, entered-rest}
+use Rattle.ticked.proofs.Returning.{Entered, turn, entered-rest}
 use Rattle.history.specs.Ranking.{Entry}
 use Rattle.history.specs.Machine as plain
 use Rattle.history.specs.Machine.{Plain}

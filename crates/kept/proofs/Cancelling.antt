@@ -1,7 +1,7 @@
 -- Cancel task: no message is held by the task or queued at it, so nothing is lost with its record.
 -- Assumes nothing.
 use mathlib.Core.Path.{_≡_, refl, sym, ap, _∙_, subst}
-use mathlib.Core.Logic.{_≢_, inl, inr, _↔_}
+use mathlib.Core.Logic.{_≢_, inl, _↔_}
 use mathlib.Core.Bool.{true, false, not, _&&_, _||_, true≢false}
 use mathlib.Core.List.{List, [], _∷_}
 use Prim.Native.Nat.{ℕ}

@@ -31,19 +31,7 @@ answers-append z l (call ∷ calls) more =
     ap (λ (k : List Answer). effect z l call .answer ∷ k) (answers-append z (effect z l call .after) calls more)
 
 -- ---- a program that meets the contracts of fresh and of the step
--- it is handed the answers of the definitions
-pub made-answers : (l d : List ℕ) (calls : List Call) (answers : List Answer) → Made l calls answers d
-    → answers ≡ run small l calls .answers
-made-answers l d [] [] w = refl
-made-answers l d [] (a ∷ answers) w = absurd w
-made-answers l d (call ∷ calls) [] w = absurd w
-made-answers l d (call ∷ calls) (a ∷ answers) w =
-    let o = effect small l call in
-    ap (λ (x : Answer). x ∷ answers) (w .1 .answers)
-    ∙ ap (λ (x : List Answer). o .answer ∷ x) (made-answers (w .0) d calls answers (w .2))
-    ∙ ap (λ (m : List ℕ). o .answer ∷ run small m calls .answers) (w .1 .leaves)
-
--- it leaves their bytes
+-- it leaves the bytes of the definitions
 pub made-bytes : (l d : List ℕ) (calls : List Call) (answers : List Answer) → Made l calls answers d
     → d ≡ run small l calls .after
 made-bytes l d [] [] w = w

@@ -29,7 +29,7 @@ use Rattle.paper.specs.declared.answer.Answer.{Answer}
 use Rattle.paper.specs.declared.answer.Answer.the-variants.{Accepted, Refused}
 use Rattle.paper.specs.Answers.{ruleNumber, recordNumber, told, numberOf, handed}
 use Rattle.paper.specs.Rules.{nextMessage, messageNumber, queue, rules2to6, passes}
-use Rattle.paper.specs.Rules.{rule2At, rule3, rule4At, rule5At, rule6At}
+use Rattle.paper.specs.Rules.{rule2At, rule3, rule5At, rule6At}
 use Rattle.paper.specs.Named.{unless, broken2to6, brokenRule}
 use Rattle.paper.specs.Refusals.{Test, no1, no2By, ownRow, Verdict, given}
 use Rattle.paper.specs.Outcomes.{Outcome, accepted, judge, dispatch, body}

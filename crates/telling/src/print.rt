@@ -1,6 +1,6 @@
 // Text on standard output. Each function answers how many columns it took.
 ghost use mathlib.Core.Path.{_≡_};
-ghost use Prim.Native.Nat.{_+_, _-_, _<_, _≤_};
+ghost use Prim.Native.Nat.{_+_, _-_, _%_, _<_, _≤_};
 ghost use lib.ListN.{length};
 ghost use Rattle.io.specs.Digits.{Fewest};
 use libc::STDOUT_FILENO;
@@ -63,7 +63,9 @@ pub fn thousands(n: u64) -> usize
     decimal(n / 1000) + text(&[b',', last_digit(n / 100), last_digit(n / 10), last_digit(n)])
 }
 
-pub fn last_digit(n: u64) -> u8 {
+pub fn last_digit(n: u64) -> u8
+    ensures { λ res. ⌜ res ≡ 48 + n % 10 ⌝ }
+{
     (48 + n % 10) as u8
 }
 

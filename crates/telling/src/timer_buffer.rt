@@ -1,6 +1,7 @@
 // A timer buffer beside a board that passes: whether it is one for that board, and in words why not; and when its messages are
 // due. A program is handed it on descriptor 3, where the board is on standard input.
 ghost use mathlib.Core.Path.{_≡_};
+ghost use mathlib.Core.Bool.{true};
 ghost use Prim.Native.Nat.{_+_, _<_, _≤_};
 ghost use lib.ListN.{length};
 ghost use Rattle.io.specs.Counts.{Counts};
@@ -25,7 +26,9 @@ pub fn read_timer(space: &mut [u8]) -> usize
 }
 
 // Of so many bytes read: was there a buffer? One of no bytes is not the same as none.
-pub fn is_lent(n: usize) -> bool {
+pub fn is_lent(n: usize) -> bool
+    ensures { λ res. ⌜ (0 < n → res ≡ true) ⌝ }
+{
     if 0 < n {
         return true;
     }
@@ -36,6 +39,7 @@ pub fn is_lent(n: usize) -> bool {
 // The lowest entry that names message m, 0 if none does.
 pub fn entry_of(s: &[u8], m: u16) -> u16
     requires { ⌜ 50 ≤ length (now s) ⌝ }
+    ensures { λ res. ⌜ res ≤ 16 ⌝ }
 {
     let mut i: u16 = 0;
     while i < 16 {

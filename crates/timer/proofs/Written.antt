@@ -3,10 +3,10 @@
 -- Assumes nothing.
 use mathlib.Core.Path.{_≡_, refl, sym, ap, _∙_}
 use mathlib.Core.List.{List, [], _∷_}
-use Prim.Native.Nat.{ℕ, _+_, _*_, _/_, _%_, _≤_}
+use Prim.Native.Nat.{ℕ, _+_, _*_, _≤_}
 use native.Mathlib.Omega.{arith}
 use lib.Dec.{lit<}
-use lib.ListN.{length, set, length-set}
+use lib.ListN.{length}
 use Rattle.board.specs.Records.{Byte, Word}
 use Rattle.board.specs.Board.{put}
 use Rattle.board.proofs.Pieces.{length-putIn, getD-putIn}
@@ -15,27 +15,22 @@ use Rattle.board.proofs.Written.{record-put}
 use Rattle.timer.specs.declared.entry.Entry.{Entry}
 use Rattle.timer.specs.Timer.{timer, timerLength, entryArea, entryOf, entryBytes, timerOf, timerBytes, withEntry}
 use Rattle.timer.specs.Writes.{putNow, putEntry}
-use Rattle.timer.specs.Claims.{TimerBytes, WritesAreChanges}
-use Rattle.timer.proofs.Codec.{entry-back, small-entry, bytes-timer, writing-back-changes-nothing}
+use Rattle.timer.specs.Claims.{TimerBytes}
+use Rattle.timer.proofs.Codec.{entry-back, small-entry, bytes-timer}
 
--- ---- the bytes keep their length
--- now
-pub length-putNow : (s : List ℕ) (w : ℕ) → length (putNow s w) ≡ length s
-length-putNow s w = length-set (set s 0 (w % 256)) 1 (w / 256) ∙ length-set s 0 (w % 256)
-
--- an entry
+-- ---- an entry written: the bytes keep their length
 pub length-putEntry : (s : List ℕ) (i : ℕ) (e : Entry) → length (putEntry s i e) ≡ length s
 length-putEntry s i e = length-putIn entryArea s i (entryBytes e)
 
 -- ---- read as a timer
 -- now
-timer-put-now : (s : List ℕ) → 2 ≤ length s → (w : ℕ) → timerOf (putNow s w) ≡ timer w (timerOf s .entries)
+pub timer-put-now : (s : List ℕ) → 2 ≤ length s → (w : ℕ) → timerOf (putNow s w) ≡ timer w (timerOf s .entries)
 timer-put-now [] h w = absurd (omega arith)
 timer-put-now (x ∷ []) h w = absurd (omega arith)
 timer-put-now (x ∷ y ∷ s) h w = ap (λ (n : ℕ). timer n (timerOf (x ∷ y ∷ s) .entries)) (word-back w)
 
 -- an entry
-timer-put-entry : (s : List ℕ) → length s ≡ timerLength → (i : ℕ) (e : Entry)
+pub timer-put-entry : (s : List ℕ) → length s ≡ timerLength → (i : ℕ) (e : Entry)
     → timerOf (putEntry s i e) ≡ withEntry (timerOf s) i e
 timer-put-entry s h i e =
     let vs : List ℕ = entryBytes e in
@@ -44,15 +39,7 @@ timer-put-entry s h i e =
     let l = record-put entryArea entryOf s i vs (omega arith) refl ∙ ap (put (timerOf s .entries) i) (entry-back e) in
     λ x. timer (low x + 256 * high x) (l x)
 
-pub writes-are-changes : WritesAreChanges
-writes-are-changes s h = (λ w f. timer-put-now s (omega arith) w, λ i e. timer-put-entry s h i e)
-
--- ---- the bytes of the changed timer
--- now
-pub put-now-bytes : (s : List ℕ) → TimerBytes s → (w : ℕ) → Word w → putNow s w ≡ timerBytes (timer w (timerOf s .entries))
-put-now-bytes s h w f = ap (λ (l : List ℕ). putNow l w) (sym (writing-back-changes-nothing s h))
-
--- an entry
+-- ---- the bytes of the timer with an entry changed
 pub put-entry-bytes : (s : List ℕ) → TimerBytes s → (i : ℕ) (e : Entry) → Byte (e .message) → Word (e .due)
     → putEntry s i e ≡ timerBytes (withEntry (timerOf s) i e)
 put-entry-bytes s h i e b w =

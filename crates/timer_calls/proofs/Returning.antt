@@ -26,7 +26,7 @@ use Rattle.timer.specs.Timer.{timer, timerLength, timerOf, timerBytes, noEntry,
 use Rattle.timer.specs.Writes.{putNow, putEntry}
 use Rattle.timer.specs.Claims.{TimerBytes}
 use Rattle.timer.proofs.Codec.{length-entries, writing-back-changes-nothing}
-use Rattle.timer.proofs.Written.{length-putEntry, writes-are-changes}
+use Rattle.timer.proofs.Written.{length-putEntry, timer-put-now, timer-put-entry}
 use Rattle.paper.specs.Rules.{firstReady}
 use Rattle.paper.specs.declared.answer.Answer.{Answer}
 use Rattle.paper.specs.Outcomes.{Ends}
@@ -153,7 +153,7 @@ module _ (z : Size) (at : ℕ) (l₀ s₀ : List ℕ) where
           → timerOf f ≡ timer (timerOf s₀ .ticks) (freedTo at (i + 1) es)
       entries-next y {n = n} en ef =
           let none : n ≡ freed at (getD es i noEntry) = en ∙ (λ x. cond (sym (due ∙ y) x) noEntry (getD es i noEntry)) in
-          ap timerOf ef ∙ writes-are-changes s (g .sound .long) .1 (i + 1) n
+          ap timerOf ef ∙ timer-put-entry s (g .sound .long) (i + 1) n
           ∙ (λ x. withEntry (g .entries x) (next x) (none x))
           ∙ ap (timer (timerOf s₀ .ticks)) (freed-more at i es ∙ (λ x. freedTo at (sym next x) es))
 
@@ -199,7 +199,7 @@ module _ (z : Size) (l s : List ℕ) (h : length s ≡ timerLength) {w at : ℕ}
   is-now = ea ∙ (λ i. wrapped (ew i + 1))
 
   stepped : timerOf f ≡ timer at (timerOf s .entries)
-  stepped = ap timerOf ef ∙ writes-are-changes s h .0 at (omega arith)
+  stepped = ap timerOf ef ∙ timer-put-now s (omega arith) at
 
   tick-by : (v : Bool) → any ≡ v
       → Makes (cond v (taskMeant z (firstReady z (boardOf z d))) NoTask) d e (ticking z l s)

@@ -2,7 +2,7 @@
 -- Assumes nothing.
 use mathlib.Core.Path.{_≡_, refl, sym, ap, _∙_, subst}
 use mathlib.Core.Bool.{Bool, true, false, cond}
-use mathlib.Core.List.{List, [], _∷_}
+use mathlib.Core.List.{List, []}
 use Prim.Native.Nat.{ℕ, _+_, _%_}
 use native.Mathlib.Nat.{mod-eq-of-lt}
 use native.Mathlib.Omega.{arith}
@@ -12,8 +12,7 @@ use Rattle.board.specs.declared.numbers.TaskMeant.{TaskMeant}
 use Rattle.board.specs.declared.numbers.TaskMeant.the-variants.{NoTask}
 use Rattle.board.specs.declared.places.Place.the-variants.{OnTimer}
 use Rattle.board.specs.Numbers.{taskMeant, numberOfTask}
-use Rattle.board.specs.Records.{Byte, Word}
-use Rattle.board.specs.Board.{Board, total, boardOf, bytesOf}
+use Rattle.board.specs.Board.{Board, boardOf, bytesOf}
 use Rattle.board.specs.Writes.{putRunning, putPlace}
 use Rattle.board.proofs.Codec.{Small}
 use Rattle.timer.specs.declared.entry.Entry.{Entry}
@@ -28,16 +27,16 @@ use Rattle.linked.specs.Sound.{RunsRightly}
 use Rattle.linked.proofs.Chosen.{first-meant}
 use Rattle.kept.specs.Settled.{Settled}
 use Rattle.kept.proofs.Holding.{held-numbered}
-use Rattle.kept.proofs.Dispatching.{Handing, dispatched, listed-walked}
+use Rattle.kept.proofs.Dispatching.{dispatched, listed-walked}
 use Rattle.kept.proofs.Theorems.{passing-sound}
-use Rattle.timing.specs.Timing.{startOwn, startRow, lowestEntry, wrapped, started, startedTimer, nextNow, returned, ticked, Timed, accepting, timed, start, tick}
+use Rattle.timing.specs.Timing.{startOwn, lowestEntry, wrapped, started, startedTimer, nextNow, returned, ticked, timed, start, tick}
 use Rattle.timing.proofs.Theorems.{start-own, tick-goes}
 use Rattle.ticked.specs.Claims.{TimerSizes, Passing}
-use Rattle.ticked.proofs.Starting.{Startable, start-row, start-settled}
+use Rattle.ticked.proofs.Starting.{start-row, start-settled}
 use Rattle.ticked.proofs.Returning.{returned-settled}
 use Rattle.ticked.proofs.Buffers.{matches-entered}
 use Rattle.ticked.proofs.Leaving.{Left, passing-left}
-use Rattle.stores.specs.declared.Body.the-variants.{Done, Stopped}
+use Rattle.stores.specs.declared.Body.the-variants.{Done}
 use Rattle.stores.specs.Answers.{rests, bodyBy, bytesBy}
 use Rattle.stores.specs.Calls as calls
 use Rattle.timer_calls.specs.Stores.{behind, anyDue, returnedBytes, startCalled, tickCalled}

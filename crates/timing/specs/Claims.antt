@@ -14,7 +14,7 @@ use lib.ListN.{length}
 use Rattle.board.specs.declared.numbers.Size.{Size}
 use Rattle.board.specs.Board.{total, boardOf}
 use Rattle.timer.specs.declared.entry.Entry.{Entry}
-use Rattle.timer.specs.Timer.{timerOf, isUsed, isDue}
+use Rattle.timer.specs.Timer.{isUsed, isDue}
 use Rattle.paper.specs.declared.answer.Refusal.{Refusal}
 use Rattle.paper.specs.declared.answer.Answer.{Answer}
 use Rattle.paper.specs.declared.answer.Answer.the-variants.{Accepted, Refused}
