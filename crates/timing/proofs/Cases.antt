@@ -2,7 +2,7 @@
 -- definition could go wrong unseen. Assumes nothing.
 use mathlib.Core.Path.{_≡_, refl}
 use mathlib.Core.List.{List, [], _∷_, _++_, map}
-use Prim.Native.Nat.{ℕ, zero, suc}
+use Prim.Native.Nat.{ℕ}
 use lib.ListN.{take, replicate}
 use Rattle.timer.specs.declared.entry.Entry.{Entry}
 use Rattle.timer.specs.Timer.{Timer, timer, timerBytes, noEntry}
@@ -12,7 +12,7 @@ use Rattle.paper.specs.declared.answer.Answer.{Answer}
 use Rattle.paper.specs.declared.answer.Answer.the-variants.{Accepted}
 use Rattle.paper.specs.Outcomes.{blank}
 use Rattle.paper.proofs.Slips.{tiny, ok}
-use Rattle.timing.specs.Timing.{Timed, startedTimer, freed, ticked, tick}
+use Rattle.timing.specs.Timing.{Timed, startedTimer, freed, tick}
 use Rattle.timing.specs.Events.{Event, Called, Started, Ticked, RanAll, runAll}
 
 -- ---- a timer with these entries and free ones behind them
@@ -103,17 +103,6 @@ dueNow now = record { answer = ok; board = station 0 0 0 128 1; timer = buffer n
 
 case-due-now : tick tiny (dueNow 7 .board) (dueNow 7 .timer) ≡ dueNow 8
 case-due-now = refl
-
--- after 65,535 ticks it is still there, and one more frees it
-abbrev tickedOn : ℕ → Timer → Timer
-tickedOn zero t = t
-tickedOn (suc n) t = tickedOn n (ticked t)
-
-case-due-now-stays : tickedOn 65535 (timer 7 (fires 1 7 ∷ [])) ≡ timer 6 (fires 1 7 ∷ [])
-case-due-now-stays = refl
-
-case-due-now-freed : tickedOn 65536 (timer 7 (fires 1 7 ∷ [])) ≡ timer 7 (noEntry ∷ [])
-case-due-now-freed = refl
 
 -- ---- tick: where it goes
 -- two that are due at once stand in the queue in entry order, and both entries are free again
