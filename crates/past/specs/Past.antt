@@ -1,6 +1,7 @@
--- Document 02, Ask 4: a past of a board that passes. A board has many; this one is found by going back. A line says what the board has, the
--- earlier board that had it not, and the calls that lead from that one to this one, until there is no message and no task left. That the
--- calls do make the board again need not be believed: it is proved (PastRebuilds in Rattle.reached, specs/Claims).
+-- Document 02, Ask 4: a past of a board that passes and has no message on the timer. A board has many; this one is found by going back. A
+-- line says what the board has, the earlier board that had it not, and the calls that lead from that one to this one, until there is no
+-- message and no task left. That the calls do make the board again need not be believed: it is proved (PastRebuilds in Rattle.reached,
+-- specs/Claims).
 --   Back               an earlier board, and the calls that lead from it
 --   here b             b itself; further y f: from the earlier board of y back by f; through lines b: back by each of the lines
 --   sweep line n b     back over the numbers n to 1, each by the line; unlist line q b: back over the list q, from its last to its first

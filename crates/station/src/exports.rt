@@ -7,7 +7,7 @@ ghost use Rattle.paper.specs.Conversion.{convert};
 ghost use Rattle.timing.specs.Timing.{start, tick};
 ghost use Rattle.for_c.specs.Packed.{packed};
 ghost use Rattle.for_c.specs.Asked.{askedOf};
-ghost use Rattle.station.specs.Called.{wordFor, leftFor};
+ghost use Rattle.station.specs.Called.{wordFor, leftFor, TellsTimed};
 use for_c::asked::Asked;
 use for_c::asked::call_of_kind;
 use for_c::pack::pack;
@@ -54,14 +54,14 @@ pub extern "C" fn station_call(
 
 #[no_mangle]
 pub extern "C" fn station_start(board: &mut [u8], timer: &mut [u8], m: u16, delay: u16) -> u64
-    ensures { λ res. ⌜ (res ≡ packed (handed (start small (now (board .entry)) (now (timer .entry)) m delay .answer))) × (now (board .exit) ≡ start small (now (board .entry)) (now (timer .entry)) m delay .board) × (now (timer .exit) ≡ start small (now (board .entry)) (now (timer .entry)) m delay .timer) ⌝ }
+    ensures { λ res. ⌜ TellsTimed res (now (board .exit)) (now (timer .exit)) (start small (now (board .entry)) (now (timer .entry)) m delay) ⌝ }
 {
     pack(crate::start(board, timer, m, delay))
 }
 
 #[no_mangle]
 pub extern "C" fn station_tick(board: &mut [u8], timer: &mut [u8]) -> u64
-    ensures { λ res. ⌜ (res ≡ packed (handed (tick small (now (board .entry)) (now (timer .entry)) .answer))) × (now (board .exit) ≡ tick small (now (board .entry)) (now (timer .entry)) .board) × (now (timer .exit) ≡ tick small (now (board .entry)) (now (timer .entry)) .timer) ⌝ }
+    ensures { λ res. ⌜ TellsTimed res (now (board .exit)) (now (timer .exit)) (tick small (now (board .entry)) (now (timer .entry))) ⌝ }
 {
     pack(crate::tick(board, timer))
 }

@@ -16,7 +16,7 @@ use Rattle.kept.proofs.Timers.{calls-leave-the-timer}
 use Rattle.timing.specs.Timing.{startRow, tickRow, started, startedTimer, nextNow, returned, ticked, Timed, start, tick}
 use Rattle.timing.specs.Events.{Called, Started, Ticked}
 use Rattle.timing.proofs.Theorems.{tick-goes, start-below, tick-below, accepted-passed}
-use Rattle.ticked.specs.Claims.{TimerSizes, Passing, Once}
+use Rattle.ticked.specs.Claims.{TimerSizes, Passing, BlocksOnce}
 use Rattle.ticked.specs.Claims.{EventsStayPassing, NeverStuck, TicksGo, EveryBlockOnce, DueInEntryOrder}
 use Rattle.ticked.proofs.Returning.{returned-settled}
 use Rattle.ticked.proofs.Buffers.{good-stays, matches-entered}
@@ -71,7 +71,7 @@ ticks-go z l s a p =
 
 -- ---- every block in one place
 -- where a board and a buffer pass
-passing-once : (z : Size) (o : Timed) → TimerSizes z → Passing z (o .board) (o .timer) → Once z o
+passing-once : (z : Size) (o : Timed) → TimerSizes z → Passing z (o .board) (o .timer) → BlocksOnce z o
 passing-once z o a p v c k e m n =
     let h = passing-left z (o .board) (o .timer) (a .sizes) p in
     let t : Timer = timerOf (o .timer) in

@@ -7,8 +7,9 @@
 --   NeverStuck             refusal 15 is given by no start and no tick, whatever the bytes
 --   TicksGo                a tick on a board and a buffer that pass is accepted
 --   OneTimer t m           exactly one entry of t names the message m
---   EveryBlockOnce         after an accepted start or tick, on whatever bytes, every block is free, held by one present task, in one queue
---                          once, or on the timer in one entry once
+--   BlocksOnce z o         where the outcome o is accepted, every block is free, held by one present task, in one queue once, or on the
+--                          timer in one entry once
+--   EveryBlockOnce         so it is after a start or tick on whatever bytes
 --   dueQueues              the queues once the messages that are due have gone back, each placed at its SPTR task by its priority and
 --                          queue type, in entry order
 --   DueInEntryOrder        those are the queues that a tick's dispatch finds
@@ -82,8 +83,8 @@ abbrev pub OneTimer : Timer → ℕ → Type 0
 OneTimer t m =
     (i : ℕ) × Numbered 16 i × (entry t i .message ≡ m) × ((j : ℕ) → Numbered 16 j → entry t j .message ≡ m → j ≡ i)
 
-abbrev pub Once : Size → Timed → Type 0
-Once z o =
+abbrev pub BlocksOnce : Size → Timed → Type 0
+BlocksOnce z o =
     (v c k : ℕ) → o .answer ≡ Accepted v c k → (m : ℕ) → Numbered (z .messages) m → let b = boardOf z (o .board) in
     Whereabouts z b m × (place b m ≡ OnTimer → OneTimer (timerOf (o .timer)) m)
     × (place b m ≢ OnTimer → (j : ℕ) → Numbered 16 j → entry (timerOf (o .timer)) j .message ≢ m)
@@ -91,7 +92,7 @@ Once z o =
 abbrev pub EveryBlockOnce : Type 0
 EveryBlockOnce =
     (z : Size) (l s : List ℕ) → TimerSizes z → ((i : ℕ) → Byte (getD l i 0)) → ((i : ℕ) → Byte (getD s i 0))
-    → ((m delay : ℕ) → Word m → Word delay → Once z (start z l s m delay)) × Once z (tick z l s)
+    → ((m delay : ℕ) → Word m → Word delay → BlocksOnce z (start z l s m delay)) × BlocksOnce z (tick z l s)
 
 -- ---- several due at one tick
 abbrev pub dueQueues : Size → ℕ → List Entry → Board → (ℕ → List ℕ) → ℕ → List ℕ
