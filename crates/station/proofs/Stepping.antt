@@ -30,7 +30,7 @@ use Rattle.stored.proofs.Theorems.{call-effect}
 use Rattle.inner.proofs.Steps.{ends}
 use Rattle.station.proofs.Answers.{sized-not, sized-so, sized-long, sized-whole, today-broken, today-kept, runs-named}
 
--- what a call asks for, and start and tick too: s is the test of the length, and x what the check of the rules says
+-- what a call asks for: s is the test of the length, and x what the check of the rules says
 pub runner-asked : (l : List ℕ) {s : Bool} → s ≡ eqb (length l) (total small) → not s ≡ false → {x : Checked}
     → x ≡ checkedOf Today small (boardOf small l) → {w : TaskMeant} → x ≡ Passes w → Runs small l w
 runner-asked l es h ex p =

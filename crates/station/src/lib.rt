@@ -1,6 +1,7 @@
 // PROMISE. The station's board for its callers: making a fresh board, checking one, converting a saved one, the nineteen calls, and start and
 // tick with a timer buffer, on lent bytes of any length and content. Read for the contracts: each says the answer and every byte afterwards
 // by one definition (paper, Outcomes and Conversion; timing, Timing).
+mod both_pass;
 pub mod exports;
 
 ghost use mathlib.Core.Path.{_≡_};
@@ -14,6 +15,8 @@ ghost use Rattle.paper.specs.Conversion.{convert};
 ghost use Rattle.timing.specs.Timing.{EndsTimed, start, tick};
 ghost use Rattle.rules.specs.Checked.{checkedOf};
 use board::numbers::Size;
+use both_pass::BothPass;
+use both_pass::both_pass;
 use calls::make_call;
 use lent::bytes::put_running;
 use paper::answer::Answer;
@@ -22,7 +25,6 @@ use paper::call::Call;
 use rules::Checked;
 use rules::Edition;
 use rules::check_rules;
-use timer_calls::buffer::good_timer;
 use timer_calls::start::make_start;
 use timer_calls::tick::make_tick;
 
@@ -103,18 +105,10 @@ pub fn step(l: &mut [u8], call: Call) -> Answer
 pub fn start(l: &mut [u8], s: &mut [u8], m: u16, delay: u16) -> Answer
     ensures { λ res. ⌜ EndsTimed res (now (l .exit)) (now (s .exit)) (start small (now (l .entry)) (now (s .entry)) m delay) ⌝ }
 {
-    if !sized(l) {
-        return Answer::Refused(Refusal::WrongLength);
-    }
-    let checked = checked_small(Edition::Today, l);
-    match checked {
-        Checked::Broken(r) => Answer::Refused(Refusal::RuleBroken(r)),
-        Checked::Passes(c) => {
-            if !good_timer(Size::SMALL, l, s) {
-                return Answer::Refused(Refusal::BadTimer);
-            }
-            make_start(Size::SMALL, l, s, c, m, delay)
-        }
+    let passed = both_pass(l, s);
+    match passed {
+        BothPass::Not(q) => Answer::Refused(q),
+        BothPass::Runs(c) => make_start(Size::SMALL, l, s, c, m, delay),
     }
 }
 
@@ -122,18 +116,10 @@ pub fn start(l: &mut [u8], s: &mut [u8], m: u16, delay: u16) -> Answer
 pub fn tick(l: &mut [u8], s: &mut [u8]) -> Answer
     ensures { λ res. ⌜ EndsTimed res (now (l .exit)) (now (s .exit)) (tick small (now (l .entry)) (now (s .entry))) ⌝ }
 {
-    if !sized(l) {
-        return Answer::Refused(Refusal::WrongLength);
-    }
-    let checked = checked_small(Edition::Today, l);
-    match checked {
-        Checked::Broken(r) => Answer::Refused(Refusal::RuleBroken(r)),
-        Checked::Passes(c) => {
-            if !good_timer(Size::SMALL, l, s) {
-                return Answer::Refused(Refusal::BadTimer);
-            }
-            make_tick(Size::SMALL, l, s, c)
-        }
+    let passed = both_pass(l, s);
+    match passed {
+        BothPass::Not(q) => Answer::Refused(q),
+        BothPass::Runs(c) => make_tick(Size::SMALL, l, s, c),
     }
 }
 

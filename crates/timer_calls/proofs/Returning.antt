@@ -228,6 +228,7 @@ module _ (z : Size) (l s : List ℕ) (h : length s ≡ timerLength) {w at : ℕ}
 pub tick-made : (z : Size) (l s : List ℕ) {n : ℕ} {x : TaskMeant} {d e : List ℕ} → n ≡ boardOf z l .running
     → Makes x d e (ticking z l s) → {a : Answer} {f : List ℕ} → Ends a f (finish z n (Done 0 x) d)
     → EndsTimed a f e (tickCalled z l s)
+unfolding tickCalled
 tick-made z l s r made =
     let o = ticking z l s in
     dispatched z (boardOf z l .running) (record { answer = Done 0 (o .answer); board = o .board; timer = o .timer }) r

@@ -92,6 +92,6 @@ ticking z l s = let t = timerOf s in let at = nextNow t in let d = returnedBytes
   timer = timerBytes (ticked t);
 }
 
-abbrev pub tickCalled : Size → List ℕ → List ℕ → Timed
+unfoldable pub tickCalled : Size → List ℕ → List ℕ → Timed
 tickCalled z l s = let o = ticking z l s in
     behind (finish z (boardOf z l .running) (Done 0 (o .answer)) (o .board)) (o .timer)

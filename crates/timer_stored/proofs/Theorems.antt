@@ -139,6 +139,7 @@ module _ (z : Size) (l s : List ℕ) (a : TimerSizes z) (p : Passing z l s) wher
   compared any = cond any (taskMeant z (firstReady z (boardOf z bytes))) NoTask
 
   pub tick-effect : Small (tickCalled z l s .board) → tickCalled z l s ≡ tick z l s
+  unfolding tickCalled
   tick-effect small =
       let entered = matches-entered b (t .entries) (left .right) in
       let comes = returned-comes z at (left .order) (a .sizes) (t .entries) l (left .queues) (p .bytes .long) (left .settled) entered in
