@@ -8,7 +8,7 @@ use board::numbers::TaskMeant;
 use paper::answer::Refusal;
 use rules::Checked;
 use rules::Edition;
-use timer_calls::buffer::good_timer;
+use timer_rules::good_timer;
 
 pub enum BothPass {
     Not(Refusal),

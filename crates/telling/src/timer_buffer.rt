@@ -14,7 +14,7 @@ use crate::print::text;
 use board::numbers::Size;
 use lent::by_word::is_timed;
 use timer::bytes::entry_at;
-use timer_calls::buffer::good_timer;
+use timer_rules::good_timer;
 
 const TIMER_FILENO: i32 = 3;
 

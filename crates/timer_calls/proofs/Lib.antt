@@ -1,4 +1,2 @@
 pub mod Starting
 pub mod Returning
-mod Buffers
-mod BufferTurns

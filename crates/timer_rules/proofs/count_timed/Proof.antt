@@ -1,4 +1,4 @@
--- `timer_calls::buffer::count_timed` meets its contract.
+-- `timer_rules::count_timed` meets its contract.
 use mathlib.Core.Path.{_≡_, refl, sym, ap, _∙_}
 use Prim.Native.Nat.{_-_, _≤_}
 use native.Mathlib.Omega.{arith}
@@ -8,8 +8,8 @@ use Rattle.board.specs.Board.{boardOf, place}
 use Rattle.board.specs.Places.{isOnTimer}
 use Rattle.queue_rules.specs.Walks.{counted}
 use Rattle.queue_rules.proofs.Turns.{count-starts, count-yes, count-no, count-bound}
-use Rattle.timer_calls.proofs.buffer.count_timed.Statement.{statement}
-use Rattle.timer_calls.proofs.buffer.count_timed.Tie as tie
+use Rattle.timer_rules.proofs.count_timed.Statement.{statement}
+use Rattle.timer_rules.proofs.count_timed.Tie as tie
 
 abbrev Inv-loop : tie.InvT-loop
 Inv-loop z l most m₀ n₀ m n = (m ≤ most) × (most ≡ z .messages) × (n ≡ counted (λ m. isOnTimer (place (boardOf z l) m)) m)

@@ -1,4 +1,4 @@
--- `timer_calls::buffer::count_used` meets its contract.
+-- `timer_rules::count_used` meets its contract.
 use mathlib.Core.Path.{_≡_, refl, sym, ap, _∙_}
 use mathlib.Core.Bool.{true}
 use Prim.Native.Nat.{_-_, _≤_}
@@ -11,10 +11,10 @@ use Rattle.board.specs.Board.{boardOf}
 use Rattle.timer.specs.Timer.{timerOf, isUsed, entry}
 use Rattle.queue_rules.specs.Walks.{counted}
 use Rattle.queue_rules.proofs.Turns.{count-starts, count-yes, count-no, count-bound}
-use Rattle.timer_calls.specs.Buffer.{goodEntry}
-use Rattle.timer_calls.proofs.BufferTurns.{entries-bad, entries-good, entries-counted}
-use Rattle.timer_calls.proofs.buffer.count_used.Statement.{statement}
-use Rattle.timer_calls.proofs.buffer.count_used.Tie as tie
+use Rattle.timer_rules.specs.Buffer.{goodEntry}
+use Rattle.timer_rules.proofs.BufferTurns.{entries-bad, entries-good, entries-counted}
+use Rattle.timer_rules.proofs.count_used.Statement.{statement}
+use Rattle.timer_rules.proofs.count_used.Tie as tie
 
 abbrev Inv-loop : tie.InvT-loop
 Inv-loop z l s i₀ n₀ i n =

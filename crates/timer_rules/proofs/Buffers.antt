@@ -28,9 +28,9 @@ use Rattle.timing.specs.Timing.{used, freeAreZero, onTimer, goodTimer}
 use Rattle.queue_rules.specs.Walks.{counted}
 use Rattle.queue_rules.proofs.Counting.{counted-which}
 use Rattle.queue_rules.proofs.Lists.{alike}
-use Rattle.timer_calls.specs.declared.buffer.Entries.{Entries}
-use Rattle.timer_calls.specs.declared.buffer.Entries.the-variants.{Used, Bad}
-use Rattle.timer_calls.specs.Buffer.{timedOf, namedBefore, goodEntry, usedOf}
+use Rattle.timer_rules.specs.declared.Entries.{Entries}
+use Rattle.timer_rules.specs.declared.Entries.the-variants.{Used, Bad}
+use Rattle.timer_rules.specs.Buffer.{timedOf, namedBefore, goodEntry, usedOf}
 
 -- ---- the messages in entries, by the entry
 -- entry i, counted from 0

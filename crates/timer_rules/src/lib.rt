@@ -1,12 +1,12 @@
-// Refusal 18: is this a timer buffer for the board? Each entry is looked at once. The messages on the timer are counted by their
-// places alone: where as many entries are used, each for another message that is there, they are exactly those.
+// CODE. Refusal 18 (document 02, Ask 5): is this a timer buffer for the board? Each entry is looked at once. The messages on the timer are
+// counted by their places alone: where as many entries are used, each for another message that is there, they are exactly those.
 ghost use mathlib.Core.Path.{_≡_};
 ghost use Prim.Native.Nat.{_≤_};
 ghost use lib.ListN.{length};
 ghost use Rattle.board.specs.Board.{boardOf, total};
 ghost use Rattle.timer.specs.Timer.{timerOf};
 ghost use Rattle.timing.specs.Timing.{goodTimer};
-ghost use Rattle.timer_calls.specs.Buffer.{namedBefore, goodAs, usedOf, timedOf};
+ghost use Rattle.timer_rules.specs.Buffer.{namedBefore, goodAs, usedOf, timedOf};
 use board::numbers::Size;
 use lent::by_word::is_timed;
 use timer::bytes::entry_at;

@@ -1,4 +1,4 @@
--- A timer buffer as code looks at it, entry by entry, counting as it goes. The contracts of src/buffer.rt cite this file; that it
+-- A timer buffer as code looks at it, entry by entry, counting as it goes. The contracts of src/lib.rt cite this file; that it
 -- says the same as the definition of 18 is proved (proofs/Buffers), so no reader needs to believe it.
 --   timedOf z b          how many messages are placed on the timer
 --   namedBefore t i m    an entry before entry i names the message m
@@ -16,8 +16,8 @@ use Rattle.board.specs.Board.{Board, place}
 use Rattle.timer.specs.declared.entry.Entry.{Entry}
 use Rattle.timer.specs.Timer.{Timer, isUsed, entry}
 use Rattle.queue_rules.specs.Walks.{counted}
-use Rattle.timer_calls.specs.declared.buffer.Entries.{Entries}
-use Rattle.timer_calls.specs.declared.buffer.Entries.the-variants.{Used, Bad}
+use Rattle.timer_rules.specs.declared.Entries.{Entries}
+use Rattle.timer_rules.specs.declared.Entries.the-variants.{Used, Bad}
 
 abbrev pub timedOf : Size → Board → ℕ
 timedOf z b = counted (λ m. isOnTimer (place b m)) (z .messages)

@@ -1,13 +1,13 @@
--- `timer_calls::buffer::good_entry` meets its contract.
+-- `timer_rules::good_entry` meets its contract.
 use mathlib.Core.Path.{sym, _∙_}
 use denote.Ref.{now}
 use borrow.Author.Tests.{not-true, not-false}
 use borrow.Author.Needs.{needs}
 use Rattle.board.specs.Board.{boardOf}
 use Rattle.timer.specs.Timer.{timerOf}
-use Rattle.timer_calls.proofs.BufferTurns.{free-good, untimed-bad, timed-good}
-use Rattle.timer_calls.proofs.buffer.good_entry.Statement.{statement}
-use Rattle.timer_calls.proofs.buffer.good_entry.Tie as tie
+use Rattle.timer_rules.proofs.BufferTurns.{free-good, untimed-bad, timed-good}
+use Rattle.timer_rules.proofs.good_entry.Statement.{statement}
+use Rattle.timer_rules.proofs.good_entry.Tie as tie
 
 returns : tie.Need-returns
 returns c =

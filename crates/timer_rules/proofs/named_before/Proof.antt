@@ -1,4 +1,4 @@
--- `timer_calls::buffer::named_before` meets its contract.
+-- `timer_rules::named_before` meets its contract.
 use mathlib.Core.Path.{_≡_, refl}
 use mathlib.Core.Bool.{true}
 use Prim.Native.Nat.{_-_, _≤_}
@@ -6,9 +6,9 @@ use native.Mathlib.Omega.{arith}
 use denote.Ref.{now}
 use borrow.Author.Needs.{needs}
 use Rattle.timer.specs.Timer.{timerOf}
-use Rattle.timer_calls.proofs.BufferTurns.{unnamed, named-here, named-later, named-none}
-use Rattle.timer_calls.proofs.buffer.named_before.Statement.{statement}
-use Rattle.timer_calls.proofs.buffer.named_before.Tie as tie
+use Rattle.timer_rules.proofs.BufferTurns.{unnamed, named-here, named-later, named-none}
+use Rattle.timer_rules.proofs.named_before.Statement.{statement}
+use Rattle.timer_rules.proofs.named_before.Tie as tie
 
 abbrev Inv-loop : tie.InvT-loop
 Inv-loop s i m j₀ j = (1 ≤ j) × (unnamed (timerOf s) m (j - 1) ≡ true)

@@ -1,11 +1,11 @@
--- `timer_calls::buffer::good_timer` meets its contract.
+-- `timer_rules::good_timer` meets its contract.
 use mathlib.Core.Path.{refl, sym, _∙_}
 use native.Mathlib.Omega.{arith}
 use denote.Ref.{now}
 use borrow.Author.Needs.{needs}
-use Rattle.timer_calls.proofs.BufferTurns.{timer-misfits, timer-told}
-use Rattle.timer_calls.proofs.buffer.good_timer.Statement.{statement}
-use Rattle.timer_calls.proofs.buffer.good_timer.Tie as tie
+use Rattle.timer_rules.proofs.BufferTurns.{timer-misfits, timer-told}
+use Rattle.timer_rules.proofs.good_timer.Statement.{statement}
+use Rattle.timer_rules.proofs.good_timer.Tie as tie
 
 returns : tie.Need-returns
 returns c =

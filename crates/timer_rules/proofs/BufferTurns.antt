@@ -19,10 +19,10 @@ use Rattle.timer.specs.declared.entry.Entry.{Entry}
 use Rattle.timer.specs.Timer.{Timer, timerLength, timerOf, isUsed, entry}
 use Rattle.timing.specs.Timing.{goodTimer}
 use Rattle.queue_rules.specs.Walks.{counted}
-use Rattle.timer_calls.specs.declared.buffer.Entries.{Entries}
-use Rattle.timer_calls.specs.declared.buffer.Entries.the-variants.{Used, Bad}
-use Rattle.timer_calls.specs.Buffer.{timedOf, namedBefore, goodAs, goodEntry, usedOf}
-use Rattle.timer_calls.proofs.Buffers.{other, asMany, good-timer-is}
+use Rattle.timer_rules.specs.declared.Entries.{Entries}
+use Rattle.timer_rules.specs.declared.Entries.the-variants.{Used, Bad}
+use Rattle.timer_rules.specs.Buffer.{timedOf, namedBefore, goodAs, goodEntry, usedOf}
+use Rattle.timer_rules.proofs.Buffers.{other, asMany, good-timer-is}
 
 -- ---- the search for an entry that names m
 module _ (t : Timer) (m : ℕ) where
