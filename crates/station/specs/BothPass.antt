@@ -1,4 +1,5 @@
--- What start and tick look at before all else: 1, 2 and 18, which are a tick's whole row. The contract of both_pass cites this file.
+-- What start and tick look at before all else: 1, 2 and 18, which are a tick's whole row. The contract of both_pass, which no caller sees,
+-- cites this file; start and tick are proved to meet their own (proofs/Timing), so no reader needs to believe it.
 --   bothPass l s      the refusal that a tick would give of a board of the bytes l with the timer buffer s; where it gives none, who runs
 -- Assumes nothing.
 use mathlib.Core.List.{List}
