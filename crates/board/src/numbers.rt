@@ -4,7 +4,7 @@ ghost use Rattle.std.specs.Prelude.{◌≡◌};
 ghost use Rattle.board.specs.Numbers.{task_meant, message_meant, number_of_task, number_of_message};
 
 // How many tasks and messages a board has.
-#[derive(Drop)]
+#[derive(Clone, Copy)]
 pub struct Size {
     pub tasks: u16,
     pub messages: u16,
@@ -18,22 +18,22 @@ impl Size {
 }
 
 // The number of a task, from 1.
-#[derive(Drop)]
+#[derive(Clone, Copy)]
 pub struct TaskNo(u16);
 
 // The number of a message, from 1.
-#[derive(Drop)]
+#[derive(Clone, Copy)]
 pub struct MsgNo(u16);
 
 // The task that a word means, if the board has it.
-#[derive(Drop)]
+#[derive(Clone, Copy)]
 pub enum TaskMeant {
     Task(TaskNo),
     NoTask,
 }
 
 // The message that a word means, if the board has it.
-#[derive(Drop)]
+#[derive(Clone, Copy)]
 pub enum MessageMeant {
     Message(MsgNo),
     NoMessage,

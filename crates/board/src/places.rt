@@ -4,7 +4,7 @@ ghost use Rattle.board.specs.Places.{place_of, place_byte, is_held_by, is_queued
 
 use crate::numbers::{Size, TaskMeant, TaskNo};
 
-#[derive(Drop)]
+#[derive(Clone, Copy)]
 pub enum Place {
     Free,
     HeldBy(TaskNo),

@@ -8,7 +8,7 @@ ghost use Rattle.board.specs.Records.{no_task, no_message, task_with_stat, task_
 use crate::numbers::{MessageMeant, MsgNo, Size, TaskMeant, TaskNo};
 use crate::status::Status;
 
-#[derive(Drop)]
+#[derive(Clone, Copy)]
 pub struct Task {
     pub stat: Status,
     pub prio: u8,
@@ -18,7 +18,7 @@ pub struct Task {
     pub name: u16,
 }
 
-#[derive(Drop)]
+#[derive(Clone, Copy)]
 pub struct Message {
     pub stat: u8,
     pub prio: u8,

@@ -3,7 +3,7 @@
 ghost use Rattle.std.specs.Prelude.{◌≡◌};
 ghost use Rattle.board.specs.Status.{has, with_bit, without_bit, is_present, is_ready};
 
-#[derive(Drop)]
+#[derive(Clone, Copy)]
 pub struct Status(u8);
 
 impl Status {

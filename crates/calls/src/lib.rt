@@ -1,4 +1,6 @@
 // CODE. The nineteen bodies behind one match, and dispatch behind them: a call on a board that passes.
+#![tactic(auto)]
+
 ghost use Rattle.paper.specs.Outcomes.{Ends};
 ghost use Rattle.stores.specs.Answers.{Runs, Makes};
 ghost use Rattle.stores.specs.Calls.{stepping, called};

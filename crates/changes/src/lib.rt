@@ -1,4 +1,6 @@
 // CODE. The changes that effects are made of (paper, Changes), on lent bytes: one bit, one field, one link, a message in a task's hands.
+#![tactic(auto)]
+
 ghost use Rattle.std.specs.Prelude.{◌≡◌, ◌≤◌, length};
 ghost use Rattle.board.specs.Numbers.{number_of_task, number_of_message};
 ghost use Rattle.board.specs.Board.{total};

@@ -1,4 +1,6 @@
 // PROGRAM. A board from standard input, and what the check says of it in one line: it passes and who runs, or it is refused and why.
+#![tactic(auto)]
+
 use libc::STDIN_FILENO;
 use telling::finding::{Finding, judged, tell_running};
 use telling::print::text;

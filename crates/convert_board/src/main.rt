@@ -1,5 +1,7 @@
 // PROGRAM. A board from standard input that was saved when byte 1 was always zero, and the bytes of the new board that it becomes, or the
 // refusal in one line.
+#![tactic(auto)]
+
 use libc::{STDIN_FILENO, STDOUT_FILENO};
 use telling::finding::{Finding, converted};
 

@@ -1,4 +1,6 @@
 // CODE. Dispatch, which ends every accepted call: who runs is settled, and is handed its first message if it is due one.
+#![tactic(auto)]
+
 ghost use Rattle.std.specs.Prelude.{◌≡◌, ◌≤◌, length, ◌&&◌, ltb};
 ghost use Rattle.board.specs.Numbers.{number_of_task};
 ghost use Rattle.board.specs.Status.{number};

@@ -2,6 +2,8 @@
 // linked by arrows, and what it holds set below; and a row for the timer with the messages on it. Where descriptor 3 is open, a
 // timer buffer is read there, and each has in how many ticks it is due. A board or a buffer that is refused is not drawn; its
 // refusal is told.
+#![tactic(auto)]
+
 mod boxes;
 mod on_timer;
 mod page;

@@ -4,7 +4,7 @@ ghost use Rattle.for_c.specs.Asked.{asked_of};
 
 use paper::call::Call;
 
-#[derive(Drop)]
+#[derive(Clone, Copy)]
 pub enum Asked {
     Made(Call),
     NoCall,

@@ -1,4 +1,6 @@
 // DATA. A group of four places on lent bytes, tested together as one number (document 02, Ask 2).
+#![tactic(auto)]
+
 ghost use Rattle.std.specs.Prelude.{◌≡◌, ◌<◌, ◌≤◌, [], ◌∷◌, length};
 ghost use Rattle.board.specs.Board.{board_of, total};
 ghost use Rattle.four_places.specs.Fours.{none_zero, none_free};

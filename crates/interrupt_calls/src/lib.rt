@@ -1,4 +1,6 @@
 // CODE. The bodies of post interrupt and wait for interrupt. Each tests the refusals of its row in the paper's order, and only then writes.
+#![tactic(auto)]
+
 ghost use Rattle.std.specs.Prelude.{◌≤◌, length};
 ghost use Rattle.board.specs.Board.{total};
 ghost use Rattle.paper.specs.declared.call.Call.TheVariants as calls;

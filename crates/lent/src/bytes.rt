@@ -15,7 +15,7 @@ use board::records::{Message, Task};
 use board::status::Status;
 
 // A link of a message, told apart from one that leads beyond the board.
-#[derive(Drop)]
+#[derive(Clone, Copy)]
 pub enum MessageLink {
     On(MsgNo),
     End,

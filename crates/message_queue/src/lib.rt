@@ -1,5 +1,7 @@
 // CODE. The queue of a task on lent bytes: a message goes in at its spot, or is taken out. A move stores two words; that this is the queue
 // that the definitions relink whole is proved (stored).
+#![tactic(auto)]
+
 ghost use Rattle.std.specs.Prelude.{◌≡◌, ◌≤◌, length};
 ghost use Rattle.board.specs.Numbers.{number_of_message};
 ghost use Rattle.board.specs.Board.{total};

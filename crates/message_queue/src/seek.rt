@@ -11,7 +11,7 @@ use board::priority::number;
 use lent::bytes::{next_message, prio_of, task_at};
 
 // The last message passed and the message stopped at, if any.
-#[derive(Drop)]
+#[derive(Clone, Copy)]
 pub struct MessageSpot {
     pub prev: MessageMeant,
     pub cur: MessageMeant,

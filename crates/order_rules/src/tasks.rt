@@ -12,7 +12,7 @@ use queue_rules::Walked;
 
 // One link followed: on to the next task, with the priority number of this one; to the end; or a task that does not belong there, or a
 // link that leads beyond the board.
-#[derive(Drop)]
+#[derive(Clone, Copy)]
 pub enum TaskTurn {
     Next { k: TaskNo, low: u8 },
     End,
@@ -20,14 +20,14 @@ pub enum TaskTurn {
 }
 
 // The whole walk: how many tasks it saw and the first ready one, or that it strayed or did not end.
-#[derive(Drop)]
+#[derive(Clone, Copy)]
 pub enum OrderWalked {
     Seen { n: u32, c: TaskMeant },
     Broken,
 }
 
 // R3: the task queue is in order, and this is its first ready task; or it is broken.
-#[derive(Drop)]
+#[derive(Clone, Copy)]
 pub enum Order {
     Listed(TaskMeant),
     Broken,

@@ -3,7 +3,7 @@
 use board::numbers::{MsgNo, TaskNo};
 
 // A broken rule, with the task or message that breaks it where the rule is one for each record, and R7 with byte 1 as it is.
-#[derive(Drop)]
+#[derive(Clone, Copy)]
 pub enum Rule {
     R1,
     R2(TaskNo),
@@ -14,7 +14,7 @@ pub enum Rule {
     R7(u8),
 }
 
-#[derive(Drop)]
+#[derive(Clone, Copy)]
 pub enum Refusal {
     WrongLength,
     RuleBroken(Rule),
@@ -36,7 +36,7 @@ pub enum Refusal {
     BadTimer,
 }
 
-#[derive(Drop)]
+#[derive(Clone, Copy)]
 pub enum Answer {
     Accepted {
         value: u16,

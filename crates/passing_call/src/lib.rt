@@ -1,5 +1,7 @@
 // CODE. A call on a board that is known to pass: document 01's effect of it, without the check, which every other call begins with. Inside
 // the library only; whoever calls has checked the board, or has it from the fresh board by calls (kept, PassingStaysPassing).
+#![tactic(auto)]
+
 ghost use Rattle.std.specs.Prelude.{◌≡◌};
 ghost use Rattle.board.specs.Numbers.{small, task_meant};
 ghost use Rattle.board.specs.Board.{board_of};

@@ -4,7 +4,7 @@ use libc::STDOUT_FILENO;
 use paper::call::Call;
 
 // A call as its kind, words and bytes, zero where it takes none.
-#[derive(Drop)]
+#[derive(Clone, Copy)]
 struct Arguments {
     kind: u8,
     a: u16,

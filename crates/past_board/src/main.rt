@@ -3,6 +3,8 @@
 // says that all were accepted and left this board. With --cases they are written as cases that run_cases takes, each with the
 // board before it; with --each there are several boards, one behind the other. A board that the check refuses has no history; its
 // refusal is told. One with a message on the timer has none of these calls alone, and that is told.
+#![tactic(auto)]
+
 mod cases;
 mod made;
 mod messages;
@@ -25,7 +27,7 @@ use telling::finding::{Finding, judged};
 use telling::print::{decimal, text};
 
 // How the program is asked.
-#[derive(Drop)]
+#[derive(Clone, Copy)]
 enum Way {
     Words,
     Cases,

@@ -1,5 +1,7 @@
 // CODE. R5: the links of a queue visit the messages that are queued there, and priority numbers never fall. The walk follows links while each
 // leads to a message that belongs to the queue, and tells how many it saw. As many as there are, all different: then it saw exactly those.
+#![tactic(auto)]
+
 ghost use Rattle.std.specs.Prelude.{◌≡◌, false, cond, ◌≤◌, ◌<◌, length};
 ghost use Rattle.board.specs.Numbers.{outside};
 ghost use Rattle.board.specs.Board.{total, board_of};
@@ -15,7 +17,7 @@ use lent::bytes::{MessageLink, link_from, prio_of, queued_at, task_at};
 
 // One link followed: on to the next message, with the priority number of this one; to the end; or a message that does not belong there,
 // or a link that leads beyond the board.
-#[derive(Drop)]
+#[derive(Clone, Copy)]
 pub enum MessageTurn {
     Next { m: MsgNo, low: u8 },
     End,
@@ -23,7 +25,7 @@ pub enum MessageTurn {
 }
 
 // A whole walk: how many messages it saw, or that it strayed or did not end.
-#[derive(Drop)]
+#[derive(Clone, Copy)]
 pub enum Walked {
     Seen(u32),
     Broken,

@@ -1,5 +1,7 @@
 // PROGRAM. Calls from standard input, records of a kind and a body one behind the other. Each is made on a board that begins fresh, and
 // written with its answer, a kind 20, behind it: so they become a trace. It ends with the input, or at a record that is no whole call.
+#![tactic(auto)]
+
 use libc::{STDIN_FILENO, STDOUT_FILENO};
 use station::step;
 use trace_records::Line;

@@ -1,5 +1,7 @@
 // CODE. Replay in parts, on a lent state. What a part leaves over, a call that is not whole yet, is kept in the state; the bytes of the next
 // part come behind it. Offsets are counted in eight bytes.
+#![tactic(auto)]
+
 ghost use Rattle.std.specs.Prelude.{◌≡◌, ◌+◌, ◌-◌, ◌<◌, ◌≤◌, true, ◌++◌, length, take, drop, slice_index};
 ghost use Rattle.board.specs.Numbers.{small};
 ghost use Rattle.paper.specs.Outcomes.{effect};

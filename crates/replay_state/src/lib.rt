@@ -1,4 +1,6 @@
 // CODE. The state of a replay in parts, 1,536 lent bytes: the board, and behind it 60 bytes of our own.
+#![tactic(auto)]
+
 ghost use Rattle.std.specs.Prelude.{◌≡◌, ◌++◌, ◌-◌, ◌<◌, ◌≤◌, length, take, drop, replicate};
 ghost use Rattle.std.proofs.lemmas.List.Edits.{sets};
 ghost use Rattle.board.specs.Numbers.{small};

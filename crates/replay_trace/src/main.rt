@@ -2,6 +2,8 @@
 // OFFSET`, and the board afterwards as 2,952 hexadecimal digits. With --told it says the same in words for a person, and of an answer that
 // differs what was recorded and what is expected; with --progress it also tells on standard error how far it is. After a stop the rest
 // of the input is read and dropped.
+#![tactic(auto)]
+
 mod digits;
 mod progress;
 mod told;
@@ -16,7 +18,7 @@ use told::tell_replay;
 use traces::report::Report;
 
 // How the program is asked.
-#[derive(Drop)]
+#[derive(Clone, Copy)]
 enum Way {
     Plain,
     Told,

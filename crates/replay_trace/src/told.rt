@@ -19,14 +19,14 @@ use traces::record::{Exchange, Recorded};
 use traces::report::{Ended, Report};
 
 // How many calls there are up to where those at the front of some bytes end.
-#[derive(Drop)]
+#[derive(Clone, Copy)]
 struct Counted {
     calls: u64,
     end: usize,
 }
 
 // A replay as it is made again: after so many calls it ends at this place, or the answer to the call there differs.
-#[derive(Drop)]
+#[derive(Clone, Copy)]
 enum Again {
     Ends {
         calls: u64,

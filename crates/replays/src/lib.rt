@@ -1,5 +1,7 @@
 // CODE. Replay: the calls of a trace are made one after another as long as their recorded answers are theirs, on a board that passes from
 // the beginning and so is not checked again.
+#![tactic(auto)]
+
 ghost use Rattle.std.specs.Prelude.{◌≡◌, drop};
 ghost use Rattle.board.specs.Numbers.{small};
 ghost use Rattle.paper.specs.Outcomes.{blank};
@@ -16,7 +18,7 @@ use traces::record::{Exchange, Flaw};
 use traces::report::Ended;
 
 // How far the calls of some bytes were made: to the place from which no call is whole, or to where it stopped.
-#[derive(Drop)]
+#[derive(Clone, Copy)]
 pub enum Making {
     Rest { at: usize },
     Differs { at: usize },

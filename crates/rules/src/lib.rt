@@ -2,6 +2,8 @@
 // the definition's (paper, Rules and Named). Each record is looked at a bounded number of times and each queue walked once, and once more
 // where R5 is broken; the looks at the records count for R3 and R5. The rules of today and those of saved boards (paper, Conversion) share
 // R2 to R6, but that no message was on the timer then.
+#![tactic(auto)]
+
 pub mod records;
 pub mod runner;
 
@@ -18,14 +20,14 @@ use paper::answer::Rule;
 use queue_rules::rule5;
 
 // Which rules: those of today, or those by which boards were saved before.
-#[derive(Drop)]
+#[derive(Clone, Copy)]
 pub enum Edition {
     Today,
     Old,
 }
 
 // What the check found: a broken rule and the record, or that this task runs.
-#[derive(Drop)]
+#[derive(Clone, Copy)]
 pub enum Checked {
     Broken(Rule),
     Passes(TaskMeant),

@@ -16,7 +16,7 @@ use record_rules::messages::{good_held, good_on_timer, good_queued, zero_message
 use record_rules::tasks::{good_flags, good_task};
 
 // What a look at the tasks tells: the first whose record breaks R2, if any; else the first that breaks R6, and how many are present.
-#[derive(Drop)]
+#[derive(Clone, Copy)]
 pub struct Tasks {
     pub breaks2: TaskMeant,
     pub breaks6: TaskMeant,
@@ -24,7 +24,7 @@ pub struct Tasks {
 }
 
 // What a look at the messages tells: the first that breaks R4, if any; else how many are queued.
-#[derive(Drop)]
+#[derive(Clone, Copy)]
 pub struct Messages {
     pub breaks4: MessageMeant,
     pub queued: u16,

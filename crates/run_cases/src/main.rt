@@ -4,6 +4,8 @@
 // the timer buffer as a word and the buffer come behind the board. For each it writes a line: refusal number, value, running,
 // delivered, broken rule and its record, then each byte of the board that changed, as place=value, and each of the timer buffer,
 // as tplace=value. So any other maker's answers can be compared with ours as text.
+#![tactic(auto)]
+
 ghost use Rattle.std.specs.Prelude.{◌<◌};
 
 use for_c::asked::{Asked, call_of_kind};
@@ -13,7 +15,7 @@ use paper::answer::{Answer, Refusal};
 use paper::call::Call;
 
 // What a case asks for. Start and tick are handed the timer buffer too.
-#[derive(Drop)]
+#[derive(Clone, Copy)]
 enum Request {
     Check,
     Fresh,

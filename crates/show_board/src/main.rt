@@ -2,6 +2,8 @@
 // and what is queued at it, and the messages on the timer. Of a board that breaks a rule the refusal is told, and its records are
 // shown by their numbers; of bytes of another length the refusal alone. Where descriptor 3 is open, a timer buffer is read there,
 // and told when its messages are due; or it is refused and shown as it is stored.
+#![tactic(auto)]
+
 mod lists;
 mod on_timer;
 mod records;

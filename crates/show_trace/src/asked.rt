@@ -19,7 +19,7 @@ pub(crate) struct Asked {
     pub due: Due,
 }
 
-#[derive(Drop)]
+#[derive(Clone, Copy)]
 enum Number {
     Of(u64),
     Not,

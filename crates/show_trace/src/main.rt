@@ -2,6 +2,8 @@
 // where its record stands, and the answer that was recorded. Where that is not the board's own, what is expected follows, and the
 // replay ends there. The last line says how it ended. --from N and --to M choose the calls to tell; the others are made silently, but for
 // one whose answer differs. With --steps a call is a line of numbers for a program that draws (steps). After a stop the rest of the input is read and dropped.
+#![tactic(auto)]
+
 mod asked;
 mod shown;
 mod steps;

@@ -8,7 +8,7 @@ use paper::answer::Refusal;
 use rules::{Checked, Edition};
 use timer_rules::good_timer;
 
-#[derive(Drop)]
+#[derive(Clone, Copy)]
 pub enum BothPass {
     Not(Refusal),
     Runs(TaskMeant),

@@ -1,6 +1,8 @@
 // CODE. What a call has come to before dispatch, as enums, the record that send stores, and beneath them (specs/) what code stores for each
 // call, as one list of bytes after another. Contracts of code cite this crate; that the stores come to document 01's effects is proved above
 // it (stored), so no reader needs to believe it.
+#![tactic(auto)]
+
 pub mod addressed;
 
 ghost use Rattle.std.specs.Prelude.{◌≡◌};
@@ -10,14 +12,14 @@ use board::numbers::{MsgNo, TaskMeant, TaskNo};
 use paper::answer::{Answer, Refusal};
 
 // The running task and a message that it holds.
-#[derive(Drop)]
+#[derive(Clone, Copy)]
 pub enum Held {
     By { c: TaskNo, m: MsgNo },
     Not(Refusal),
 }
 
 // A call's body was done, with this value; of the tasks other than the one that calls it changed the status of this one at most.
-#[derive(Drop)]
+#[derive(Clone, Copy)]
 pub enum Body {
     Done { value: u16, stirred: TaskMeant },
     Stopped(Refusal),

@@ -1,5 +1,7 @@
 // CODE. A queued message comes into a task's hands: receive, cancel message, and what dispatch does. Each call tests the refusals of its
 // row in the paper's order, and only then writes.
+#![tactic(auto)]
+
 ghost use Rattle.std.specs.Prelude.{◌≡◌, ◌≤◌, length};
 ghost use Rattle.board.specs.Numbers.{message_meant};
 ghost use Rattle.board.specs.Board.{board_of, task, total};

@@ -1,5 +1,7 @@
 // CODE. The bodies of the calls on tasks: install, cancel task and find. Each tests the refusals of its row in the paper's order, and only
 // then writes.
+#![tactic(auto)]
+
 ghost use Rattle.std.specs.Prelude.{◌≡◌, ◌≤◌, length};
 ghost use Rattle.board.specs.Numbers.{number_of_task};
 ghost use Rattle.board.specs.Board.{board_of, total};

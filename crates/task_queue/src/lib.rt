@@ -1,5 +1,7 @@
 // CODE. The task queue on lent bytes: a task goes in behind its equals, or is taken out. A move stores two words; that this is the queue
 // that the definitions relink whole is proved (stored).
+#![tactic(auto)]
+
 ghost use Rattle.std.specs.Prelude.{◌≡◌, ◌≤◌, length};
 ghost use Rattle.board.specs.Numbers.{number_of_task};
 ghost use Rattle.board.specs.Board.{total};

@@ -10,7 +10,7 @@ use board::priority::number;
 use lent::bytes::{first_task, task_at};
 
 // The last task passed and the task stopped at, if any.
-#[derive(Drop)]
+#[derive(Clone, Copy)]
 pub struct TaskSpot {
     pub prev: TaskMeant,
     pub cur: TaskMeant,

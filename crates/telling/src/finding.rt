@@ -12,7 +12,7 @@ use rules::Edition;
 use station::{check, convert};
 
 // The board passes, or is converted, and this task runs, 0 for none; or it is refused.
-#[derive(Drop)]
+#[derive(Clone, Copy)]
 pub enum Finding {
     Passes(u16),
     Refused(Refusal),

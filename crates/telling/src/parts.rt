@@ -8,7 +8,7 @@ use std::num::wrapping_add_u64;
 
 // How far a reader is: so many bytes are held, and before them lie so many calls and bytes. Of both there are too few for their number to
 // wrap.
-#[derive(Drop)]
+#[derive(Clone, Copy)]
 pub struct Far {
     pub held: usize,
     pub calls: u64,

@@ -6,7 +6,7 @@ ghost use Rattle.telling.specs.States.{state_of};
 use crate::print::text;
 use board::status::Status;
 
-#[derive(Drop)]
+#[derive(Clone, Copy)]
 pub enum State {
     Running,
     Ready,

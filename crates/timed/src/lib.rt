@@ -1,5 +1,7 @@
 // PROGRAMS. A part of a call by itself, as a library for C: what bench/ times apart from the check, which is most of every call. It is no
 // part of the station's own library.
+#![tactic(auto)]
+
 ghost use Rattle.std.specs.Prelude.{◌≡◌, cond, eqb, length};
 ghost use Rattle.board.specs.Numbers.{small, message_meant, number_of_message};
 ghost use Rattle.board.specs.Board.{board_of, total};

@@ -1,5 +1,7 @@
 // CODE. Refusal 18 (document 02, Ask 5): is this a timer buffer for the board? Each entry is looked at once. The messages on the timer are
 // counted by their places alone: where as many entries are used, each for another message that is there, they are exactly those.
+#![tactic(auto)]
+
 ghost use Rattle.std.specs.Prelude.{◌≡◌, ◌≤◌, length};
 ghost use Rattle.board.specs.Board.{board_of, total};
 ghost use Rattle.timer.specs.Timer.{timer_of};
@@ -12,7 +14,7 @@ use timer::bytes::entry_at;
 use timer::entry::Entry;
 
 // How many entries are used, if each is good.
-#[derive(Drop)]
+#[derive(Clone, Copy)]
 pub enum Entries {
     Used(u16),
     Bad,

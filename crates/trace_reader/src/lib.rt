@@ -1,5 +1,7 @@
 // CODE. The trace reader: a struct that holds the trace and its place in it, and few thin functions over it. Who has the slice and the
 // place calls exchange_at, which these call.
+#![tactic(auto)]
+
 ghost use Rattle.std.specs.Prelude.{◌≡◌, drop};
 ghost use Rattle.traces.specs.Records.{front};
 

@@ -1,5 +1,7 @@
 // CODE. A call and its answer written at the front of lent bytes, as a trace has them. The call enum is matched here to its record, as
 // trace_records matches it from its record; that these are inverse is a claim (replayed, ReadBack and BytesDetermined).
+#![tactic(auto)]
+
 ghost use Rattle.std.specs.Prelude.{[], ◌∷◌, ◌++◌, ◌≤◌, length};
 ghost use Rattle.board.specs.Records.{word_bytes};
 ghost use Rattle.traces.specs.Records.{call_record, answer_record};

@@ -2,7 +2,7 @@
 use paper::call::Call;
 
 // The answer that a kind 20 has: the number or 0, then three words.
-#[derive(Drop)]
+#[derive(Clone, Copy)]
 pub struct Recorded {
     pub number: u8,
     pub value: u16,
@@ -11,7 +11,7 @@ pub struct Recorded {
 }
 
 // Why a trace can't be replayed further. The numbers 1 to 3 are a definition (specs/Replay).
-#[derive(Drop)]
+#[derive(Clone, Copy)]
 pub enum Flaw {
     Short,
     UnknownKind,
@@ -19,7 +19,7 @@ pub enum Flaw {
 }
 
 // Places and lengths count from the front. Lacking: it may still become whole, if more comes.
-#[derive(Drop)]
+#[derive(Clone, Copy)]
 pub enum Exchange {
     Nothing,
     Lacking {

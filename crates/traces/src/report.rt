@@ -1,7 +1,7 @@
 // How a replay ends, and what it reports. Offsets are in bytes from the beginning of the trace.
 use crate::record::Flaw;
 
-#[derive(Drop)]
+#[derive(Clone, Copy)]
 pub enum Ended {
     NoneDiffers { length: u64 },
     Differs { offset: u64 },
@@ -10,7 +10,7 @@ pub enum Ended {
 
 // WrongLength: of the board or the state that is lent. NoReplay: the state holds bytes that no replay leaves. SoFar: nothing stopped it, and
 // more may come; so many bytes were seen.
-#[derive(Drop)]
+#[derive(Clone, Copy)]
 pub enum Report {
     WrongLength,
     NoReplay,

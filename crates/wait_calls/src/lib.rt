@@ -1,4 +1,6 @@
 // CODE. The wait: of receive and wait, and behind the placing of the other wait forms.
+#![tactic(auto)]
+
 ghost use Rattle.std.specs.Prelude.{◌≡◌, ◌≤◌, length};
 ghost use Rattle.board.specs.Numbers.{number_of_task};
 ghost use Rattle.board.specs.Board.{total};
