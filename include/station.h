@@ -1,16 +1,16 @@
 /* The station's board: tasks, message blocks and queues in 1,476 bytes that the caller lends. Byte 0 of them names the first task
  * of the task queue, and byte 1 the running task, 0 if none. Beside it, for messages that come back later, the station timer: 50
- * bytes more. And traces: calls recorded with their answers, and replayed. For C11 and C++.
+ * bytes more. For C11 and C++.
  *
  * Link with target/staticlib/libstation.a, which `rt staticlib station` writes; of the C library it needs memset alone. No
  * function keeps anything between calls, allocates, or touches a byte outside the lent ones. A pointer must have as many bytes
- * behind it as its length says; with length 0 it may be any, NULL too. The buffers of one call do not overlap. All else is safe
- * to hand over, any bytes and any arguments: what cannot be done is refused with a number and changes nothing. One writer at a
- * time is the caller's business.
+ * behind it as its length says; with length 0 it may be any, NULL too. The board and the timer of one call do not overlap. All
+ * else is safe to hand over, any bytes and any arguments: what cannot be done is refused with a number and changes nothing. One
+ * writer at a time is the caller's business.
  *
  * Tasks are numbered 1 to 32 and messages 1 to 128; 0 is none. Names in capitals (STAT, PRIO, RPTR ..) are the fields of the
- * MITE-80 manual, 3.2 and 3.3. Small programs with all this: examples/c/shore_station.c, examples/c/watchdog.c for the timer, and
- * examples/c/recorder.c for traces. */
+ * MITE-80 manual, 3.2 and 3.3. Small programs with all this: examples/c/shore_station.c, and examples/c/watchdog.c for the
+ * timer. */
 #ifndef STATION_H
 #define STATION_H
 
@@ -22,8 +22,6 @@
 #define STATION_MESSAGES 128
 #define STATION_TIMER_BYTES 50 /* of the timer buffer */
 #define STATION_TIMERS 16
-#define STATION_STATE_BYTES 1536 /* of a replay in parts */
-#define STATION_RECORD_BYTES 17 /* at most, of a call with its answer in a trace */
 
 #ifdef __cplusplus
 extern "C" {
@@ -36,8 +34,6 @@ uint64_t station_convert(uint8_t *board, size_t len);
 uint64_t station_call(uint8_t *board, size_t len, uint8_t kind, uint16_t a, uint16_t b, uint16_t c, uint8_t stat, uint8_t prio);
 uint64_t station_start(uint8_t *board, size_t len, uint8_t *timer, size_t timer_len, uint16_t m, uint16_t delay);
 uint64_t station_tick(uint8_t *board, size_t len, uint8_t *timer, size_t timer_len);
-uint64_t station_replay(const uint8_t *trace, size_t trace_len, uint8_t *board, size_t len);
-uint64_t station_replay_part(uint8_t *state, size_t state_len, const uint8_t *part, size_t part_len, uint8_t last);
 
 /* ---- bits of a task's STAT */
 enum {
@@ -362,123 +358,6 @@ static inline station_answer station_start_timer(uint8_t *board, size_t len, uin
 static inline station_answer station_pass_tick(uint8_t *board, size_t len, uint8_t *timer, size_t timer_len)
 {
     return station_unpack(station_tick(board, len, timer, timer_len));
-}
-
-/* ---- traces: calls that a station recorded with their answers, and replay of them.
- *
- * A trace is records one behind the other, a kind byte and a body whose length the kind fixes. Kinds 1 to 19 are the calls, with
- * their arguments in the order of the wrappers above. Kind 20 follows each call: the number of the refusal or 0, then value,
- * running and delivered, all 0 where it was refused. Numbers of tasks and messages, SPTR, NAME, value, running and delivered are
- * words, two bytes with the low byte first; STAT, PRIO and the refusal are one byte.
- *
- * A trace begins with the fresh board. There is no kind for start and tick, for conversion, and for making a board fresh: what
- * comes behind one of these can't be replayed. */
-
-/* the words that a call takes, -1 where the kind is no call's; install and prepare take STAT and PRIO behind the first of them */
-static inline int station_words(uint8_t kind)
-{
-    switch (kind) {
-    case 1: return 3;
-    case 6: case 8: case 9: case 12: case 13: case 18: return 2;
-    case 2: case 3: case 4: case 7: case 10: case 11: case 14: case 15: return 1;
-    case 5: case 16: case 17: case 19: return 0;
-    default: return -1;
-    }
-}
-
-static inline uint8_t *station_put_word(uint8_t *to, uint16_t word)
-{
-    *to++ = (uint8_t)word;
-    *to++ = (uint8_t)(word >> 8);
-    return to;
-}
-
-/* The records of a call and of its answer, for a trace: so many bytes, 9 to 17, are written to out. None where the kind is no
- * call's. The arguments are those of station_call and station_ask; what the call does not take is ignored. To record, begin with
- * a fresh board, and make every call, also those that are refused, by one function of your own:
- *
- *     station_answer answer = station_ask(board, sizeof board, kind, a, b, c, stat, prio);
- *     size_t n = station_record(out, kind, a, b, c, stat, prio, answer);
- *     if (fwrite(out, 1, n, trace) != n) ..
- *
- * With station_call the answer is station_unpack(station_call(..)). Where writing fails, the call is made and not recorded: write
- * nothing more, as a trace with a gap can't be replayed; one that ends there can, but for a record that is cut short. */
-static inline size_t station_record(uint8_t out[STATION_RECORD_BYTES], uint8_t kind, uint16_t a, uint16_t b, uint16_t c,
-                                    uint8_t stat, uint8_t prio, station_answer answer)
-{
-    int words = station_words(kind);
-    uint8_t *end = out;
-    if (words < 0) return 0;
-    *end++ = kind;
-    if (words >= 1) end = station_put_word(end, a);
-    if (kind == 1 || kind == 6) {
-        *end++ = stat;
-        *end++ = prio;
-    }
-    if (words >= 2) end = station_put_word(end, b);
-    if (words >= 3) end = station_put_word(end, c);
-    *end++ = 20;
-    *end++ = answer.refusal;
-    end = station_put_word(end, answer.value);
-    end = station_put_word(end, answer.running);
-    end = station_put_word(end, answer.delivered);
-    return (size_t)(end - out);
-}
-
-/* ---- how a replay ended; the kind of a record is judged before its length. Offsets count bytes from the trace's beginning */
-enum {
-    STATION_REPLAY_AGREES = 0, /* no answer differs; the offset is the trace's length, the board that of all calls */
-    STATION_REPLAY_SHORT = 1, /* the record at the offset is cut short, or is a last call without its kind 20 and not made */
-    STATION_REPLAY_UNKNOWN_KIND = 2, /* the record at the offset is of kind 0, or above 20 */
-    STATION_REPLAY_OUT_OF_TURN = 3, /* at the offset is a kind 20 where a call is due, or a call where kind 20 is due */
-    STATION_REPLAY_DIFFERS = 4, /* the call at the offset is the first whose answer is another; the board is that after it */
-    STATION_REPLAY_NO_REPLAY = 254, /* the state has bytes that no replay leaves */
-    STATION_REPLAY_WRONG_LENGTH = 255 /* the board isn't 1,476 bytes, or the state isn't 1,536 */
-};
-
-/* With 1, 2 and 3 the board is that of the calls before; with 254 and 255 the offset is 0 and nothing has changed. */
-typedef struct {
-    uint8_t ended;
-    uint64_t offset;
-} station_report;
-
-static inline station_report station_unpack_report(uint64_t word)
-{
-    station_report report = {(uint8_t)word, word >> 8};
-    return report;
-}
-
-/* the same in words */
-static inline const char *station_ending(uint8_t ended)
-{
-    switch (ended) {
-    case STATION_REPLAY_AGREES: return "no answer differs";
-    case STATION_REPLAY_SHORT: return "the record is cut short, or the call has no answer";
-    case STATION_REPLAY_UNKNOWN_KIND: return "no record is of that kind";
-    case STATION_REPLAY_OUT_OF_TURN: return "a call and its answer do not take turns";
-    case STATION_REPLAY_DIFFERS: return "the answer differs";
-    case STATION_REPLAY_NO_REPLAY: return "no replay leaves such bytes";
-    case STATION_REPLAY_WRONG_LENGTH: return "the board isn't 1,476 bytes, or the state isn't 1,536";
-    default: return "no replay ends so";
-    }
-}
-
-/* Replays a whole trace, from the fresh board; a call is made once its kind 20 is read. The board is lent for the result: all its
- * bytes are written, whatever they held. A call does what it does today: in a trace of the time when an equal pushed the running
- * task aside, running may differ. */
-static inline station_report station_replay_whole(const uint8_t *trace, size_t trace_len, uint8_t *board, size_t len)
-{
-    return station_unpack_report(station_replay(trace, trace_len, board, len));
-}
-
-/* Replays the next part of a trace, which may be cut anywhere: it ends as the whole does. The state is all zeros before the first
- * part. Its first 1,476 bytes are the board so far, the others are the library's own; it can be put away between two parts. With
- * the last part, which may be of no bytes, last is other than 0. Before, AGREES says that nothing stopped it, and the offset is
- * the bytes seen so far. Once it is stopped, or the last part was fed, further parts change nothing and give the same again. */
-static inline station_report station_replay_next(uint8_t *state, size_t state_len, const uint8_t *part, size_t part_len,
-                                                 uint8_t last)
-{
-    return station_unpack_report(station_replay_part(state, state_len, part, part_len, last));
 }
 
 #ifdef __cplusplus

@@ -7,18 +7,12 @@
 //! | [`version`] | a version of the check, the calls, start and tick, and claim's search, in Rust or in a shared library |
 //! | [`compare`] | a version against the model |
 //! | [`cases`] | the boards and the calls that are timed |
-//! | [`long_traces`] | the traces whose replay is timed |
-//! | [`ways`] | the ways to replay them |
-//! | [`replays`] | replay of a library against the model |
 //! | [`timing`] | how long something takes |
 
 #![warn(missing_docs)]
 
 pub mod cases;
 pub mod compare;
-pub mod long_traces;
-pub mod replays;
 pub mod timing;
 pub mod tuned;
 pub mod version;
-pub mod ways;

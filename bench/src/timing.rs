@@ -6,9 +6,7 @@ use model::board::{Board, MsgNo, BOARD_LEN};
 use model::timer::{Timer, TIMER_LEN};
 
 use crate::cases::{Case, Lot};
-use crate::long_traces::{LongTrace, CALLS};
 use crate::version::{Asked, Version};
-use crate::ways::Way;
 
 /// A board that begins where a line of the cache does, and a timer buffer behind it.
 #[repr(C, align(64))]
@@ -44,22 +42,11 @@ impl Timing {
     /// Nanoseconds of the case for each version; nothing for one that cannot be asked. They take turns, so that none is the worse
     /// for coming first.
     pub fn of_case(&self, case: &Case, versions: &[Version]) -> Vec<Option<f64>> {
-        self.by_turns(versions, |version| case.lots[0].ask(version).is_some(), |version| self.of_version(case, version))
-    }
-
-    /// Nanoseconds a call of the replay of a trace, for each way; nothing for one that there is not.
-    pub fn of_replay(&self, trace: &LongTrace, ways: &[Way]) -> Vec<Option<f64>> {
-        let batch = |way: &mut Way| {
-            black_box(way.replay(black_box(&trace.bytes)));
-        };
-        self.by_turns(ways, |way| way.replay(&[]).is_some(), |mut way| self.best(CALLS, &mut way, |_| (), batch))
-    }
-
-    fn by_turns<T: Copy>(&self, all: &[T], can_be_asked: impl Fn(T) -> bool, time_of: impl Fn(T) -> f64) -> Vec<Option<f64>> {
-        let mut times: Vec<Option<f64>> = all.iter().map(|one| can_be_asked(*one).then_some(f64::INFINITY)).collect();
+        let can_be_asked = |version: &Version| case.lots[0].ask(*version).is_some();
+        let mut times: Vec<Option<f64>> = versions.iter().map(|version| can_be_asked(version).then_some(f64::INFINITY)).collect();
         for _ in 0..self.turns {
-            for (time, one) in times.iter_mut().zip(all) {
-                *time = time.map(|time| time.min(time_of(*one)));
+            for (time, &version) in times.iter_mut().zip(versions) {
+                *time = time.map(|time| time.min(self.of_version(case, version)));
             }
         }
         times

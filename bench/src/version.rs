@@ -1,5 +1,5 @@
-//! A version of the check, the calls, start and tick, and claim's search: in Rust, or in a shared library with the C interface,
-//! which has replay too. All that is `unsafe` is here.
+//! A version of the check, the calls, start and tick, and claim's search: in Rust, or in a shared library with the C interface.
+//! All that is `unsafe` is here.
 use std::ffi::{c_char, c_int, c_void, CString};
 use std::mem::transmute;
 
@@ -7,7 +7,6 @@ use model::board::{Board, MsgNo, BOARD_LEN, ON_TIMER, PLACES_AT, RUNNING};
 use model::calls::lowest_free;
 use model::{Answer, Call};
 
-use crate::replays::Replayer;
 use crate::tuned;
 
 /// What is asked of a board, and with start and tick of a timer buffer.
@@ -51,10 +50,8 @@ type CCall = unsafe extern "C" fn(*mut u8, usize, u8, u16, u16, u16, u8, u8) -> 
 type CStart = unsafe extern "C" fn(*mut u8, usize, *mut u8, usize, u16, u16) -> u64;
 type CTick = unsafe extern "C" fn(*mut u8, usize, *mut u8, usize) -> u64;
 type CSearch = unsafe extern "C" fn(*const u8, usize) -> u16;
-type CReplay = unsafe extern "C" fn(*const u8, usize, *mut u8, usize) -> u64;
-type CReplayPart = unsafe extern "C" fn(*mut u8, usize, *const u8, usize, u8) -> u64;
 
-/// Functions of a library. It may have no timer, no search by itself, or no replay.
+/// Functions of a library. It may have no timer, or no search by itself.
 #[derive(Clone, Copy)]
 pub struct Library {
     check: CCheck,
@@ -62,15 +59,7 @@ pub struct Library {
     start: Option<CStart>,
     tick: Option<CTick>,
     lowest_free: Option<CSearch>,
-    replay: Option<Replay>,
     boards: Boards,
-}
-
-/// Replay of a library, whole and in parts.
-#[derive(Clone, Copy)]
-pub struct Replay {
-    whole: CReplay,
-    part: CReplayPart,
 }
 
 /// A version.
@@ -116,7 +105,6 @@ impl Version {
         let find = |name: &str| function_of(library, name).ok_or(format!("{path} has no {name}"));
         let (check, call, search) = (find("station_check")?, find("station_call")?, find("timed_lowest_free").ok());
         let (start, tick) = (find("station_start").ok(), find("station_tick").ok());
-        let replay = find("station_replay").ok().zip(find("station_replay_part").ok());
         // the conversion came with the new boards
         let boards = if find("station_convert").is_ok() { Boards::New } else { Boards::Old };
         // SAFETY: the functions are of the types that crates/station and crates/timed say
@@ -127,21 +115,7 @@ impl Version {
         let tick = tick.map(|tick| unsafe { transmute::<*mut c_void, CTick>(tick) });
         // SAFETY: the same
         let lowest_free = search.map(|search| unsafe { transmute::<*mut c_void, CSearch>(search) });
-        let replay = replay.map(|(whole, part)| {
-            // SAFETY: the same
-            unsafe {
-                Replay { whole: transmute::<*mut c_void, CReplay>(whole), part: transmute::<*mut c_void, CReplayPart>(part) }
-            }
-        });
-        Ok(Version::C(Library { check, call, start, tick, lowest_free, replay, boards }))
-    }
-
-    /// The replay of a library, if it has one.
-    pub fn replay(self) -> Option<Replay> {
-        match self {
-            Version::Rust(_) => None,
-            Version::C(of) => of.replay,
-        }
+        Ok(Version::C(Library { check, call, start, tick, lowest_free, boards }))
     }
 
     /// The board in the form that the version knows.
@@ -226,18 +200,6 @@ impl Version {
     fn knows(self, board: &[u8]) -> bool {
         let has_timer = !matches!(self, Version::C(Library { tick: None, .. }));
         has_timer || board.len() != BOARD_LEN || !board[PLACES_AT..].contains(&ON_TIMER)
-    }
-}
-
-impl Replayer for Replay {
-    fn whole(&self, trace: &[u8], board: &mut [u8]) -> u64 {
-        // SAFETY: the library reads and writes the lent bytes only, and keeps no pointer
-        unsafe { (self.whole)(trace.as_ptr(), trace.len(), board.as_mut_ptr(), board.len()) }
-    }
-
-    fn part(&self, state: &mut [u8], part: &[u8], last: u8) -> u64 {
-        // SAFETY: the same
-        unsafe { (self.part)(state.as_mut_ptr(), state.len(), part.as_ptr(), part.len(), last) }
     }
 }
 

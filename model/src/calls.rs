@@ -58,31 +58,6 @@ impl Call {
             _ => return None,
         })
     }
-
-    /// Its kind, its words in the paper's order, STAT and PRIO; what it does not take is 0.
-    pub fn to_kind(self) -> (u8, [u16; 3], u8, u8) {
-        match self {
-            Call::Install { task, stat, prio, sptr, name } => (1, [task, sptr, name], stat, prio),
-            Call::Post { task } => (2, [task, 0, 0], 0, 0),
-            Call::Find { name } => (3, [name, 0, 0], 0, 0),
-            Call::CancelTask { task } => (4, [task, 0, 0], 0, 0),
-            Call::Claim => (5, [0; 3], 0, 0),
-            Call::Prepare { message, stat, prio, sptr } => (6, [message, sptr, 0], stat, prio),
-            Call::Release { message } => (7, [message, 0, 0], 0, 0),
-            Call::Send { message, receiver } => (8, [message, receiver, 0], 0, 0),
-            Call::SendAndWait { message, receiver } => (9, [message, receiver, 0], 0, 0),
-            Call::Resend { message } => (10, [message, 0, 0], 0, 0),
-            Call::ResendAndWait { message } => (11, [message, 0, 0], 0, 0),
-            Call::Forward { message, receiver } => (12, [message, receiver, 0], 0, 0),
-            Call::ForwardAndWait { message, receiver } => (13, [message, receiver, 0], 0, 0),
-            Call::Return { message } => (14, [message, 0, 0], 0, 0),
-            Call::ReturnAndWait { message } => (15, [message, 0, 0], 0, 0),
-            Call::Receive => (16, [0; 3], 0, 0),
-            Call::ReceiveAndWait => (17, [0; 3], 0, 0),
-            Call::CancelMessage { message, receiver } => (18, [message, receiver, 0], 0, 0),
-            Call::WaitForInterrupt => (19, [0; 3], 0, 0),
-        }
-    }
 }
 
 /// Makes a fresh board of any bytes of the right length.
@@ -99,15 +74,7 @@ pub fn step(b: &mut [u8], call: Call) -> Answer {
     let Ok(b) = <&mut Board>::try_from(b) else {
         return Answer::Refused(Refusal::Length);
     };
-    match examine(b) {
-        Err(rule) => Answer::Refused(Refusal::BrokenRule(rule)),
-        Ok(_) => step_passing(b, call),
-    }
-}
-
-/// A call on a board that passes, without a check of it. On any other board its answer means nothing, and it need not end.
-pub fn step_passing(b: &mut Board, call: Call) -> Answer {
-    match effect(b, running(b), call) {
+    match examine(b).map_err(Refusal::BrokenRule).and_then(|running| effect(b, running, call)) {
         Err(refusal) => Answer::Refused(refusal),
         Ok(value) => dispatch(b, runs_next(b), value),
     }

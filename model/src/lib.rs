@@ -1,6 +1,5 @@
 //! Document 01 in plain safe Rust, as the requests of document 02 change it: a board of lent bytes, changed in place, and the
-//! nineteen calls; the station timer, a second buffer that start and tick are lent beside the board; and replay of what was
-//! recorded.
+//! nineteen calls; and the station timer, a second buffer that start and tick are lent beside the board.
 //!
 //! It was written from the papers alone, without a look at the proved code, and serves to be compared with that code, in
 //! answers and in speed. So it is plain: every test of a call comes before its first write, and nothing is copied.
@@ -11,7 +10,6 @@
 //! | [`check`](mod@check) | the rules R1 to R7, and who is ready |
 //! | [`calls`] | the nineteen calls, the wait forms, who runs then, and dispatch |
 //! | [`timer`] | the timer buffer, start and tick |
-//! | [`trace`] | traces of calls with their answers, written and replayed |
 //! | [`convert`](mod@convert) | the conversion of old boards, and their rules |
 //! | [`answer`] | answers, refusals and rules by number |
 //! | [`runner`] | the differential run: cases made from a seed, another program's answers, and the counts |
@@ -33,11 +31,9 @@ pub mod check;
 pub mod convert;
 pub mod runner;
 pub mod timer;
-pub mod trace;
 
 pub use answer::{Answer, Refusal, Rule};
 pub use calls::{fresh, step, Call};
 pub use check::check;
 pub use convert::convert;
 pub use timer::{start, tick};
-pub use trace::replay;

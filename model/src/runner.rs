@@ -1,5 +1,4 @@
-//! The differential run: cases from a seed, and another program's answers to them against the model's. Traces are made here too,
-//! for a run in the package `bench`.
+//! The differential run: cases from a seed, and another program's answers to them against the model's.
 //!
 //! | Module | Holds |
 //! |---|---|
@@ -12,8 +11,6 @@
 //! | [`program`] | the other program and its answers |
 //! | [`tally`] | what has been seen |
 //! | [`timers_seen`] | what has been seen of the timer |
-//! | [`recordings`] | recorded traces, and faults put into them |
-//! | [`outside_traces`] | the kept traces of an independent model |
 //! | [`slips`] | answers with a known slip in them, to test the run itself |
 //! | [`timer_slips`] | the slips of the timer |
 
@@ -21,10 +18,8 @@ pub mod case;
 pub mod cases;
 pub mod damage;
 pub mod history;
-pub mod outside_traces;
 pub mod program;
 pub mod random;
-pub mod recordings;
 pub mod slips;
 pub mod tally;
 pub mod timer_damage;

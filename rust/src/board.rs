@@ -1,10 +1,7 @@
 //! The board and its calls.
 use crate::answer::{unpack, Answer, Refusal};
-use crate::call::{Call, TakesCalls};
 use crate::numbers::{MsgNo, Prio, Status, TaskNo};
-use crate::replay::{replay, Ended};
 use crate::{sys, Timer, BYTES};
-use core::borrow::BorrowMut;
 use core::fmt;
 
 /// A board: its own 1,476 bytes, or with [`lent`](Board::lent) any bytes that are lent, of any length and content.
@@ -22,7 +19,7 @@ use core::fmt;
 /// the first in queue order that waits for nothing. If it was due a message (MHBS), it has been handed the first of its queue,
 /// told as delivered.
 #[derive(Clone, PartialEq, Eq)]
-pub struct Board<B = [u8; BYTES]>(pub(crate) B);
+pub struct Board<B = [u8; BYTES]>(B);
 
 impl Board {
     /// The fresh board: all zeros, so no task, and every message free.
@@ -90,7 +87,7 @@ impl<B: AsRef<[u8]>> fmt::Debug for Board<B> {
     }
 }
 
-/// What changes a board besides the calls: making it fresh, and conversion.
+/// The calls in document 01's order, with its argument names; behind them start and tick.
 impl<B: AsMut<[u8]>> Board<B> {
     /// Makes the board fresh: all zeros, whatever it held. The timer stays as it is: whoever calls this makes a new [`Timer`]
     /// too.
@@ -110,17 +107,14 @@ impl<B: AsMut<[u8]>> Board<B> {
     pub fn convert(&mut self) -> Answer {
         done(unpack(sys::convert(self.0.as_mut())))
     }
-}
 
-/// The calls in document 01's order, with its argument names.
-impl<B: TakesCalls> Board<B> {
     /// Task `k` is there, behind those of equal priority. `stat` is TCBB, with DEBUG and MROB as one likes; `prio` is FIFO with
     /// priority 1 to 126; `sptr` and `name` are any words.
     ///
     /// # Errors
     /// [`BadPriority`](Refusal::BadPriority), [`NotInstallable`](Refusal::NotInstallable), [`BadStatus`](Refusal::BadStatus)
     pub fn install(&mut self, k: TaskNo, stat: Status, prio: Prio, sptr: u16, name: u16) -> Answer {
-        done(self.make(Call::Install { k, stat, prio, sptr, name }))
+        done(self.ask(1, [k.0, sptr, name], stat.0, prio))
     }
 
     /// Task `k` goes on if it waits for an interrupt (IWAT), else one is queued for it (INTQ), and never more than one.
@@ -128,7 +122,7 @@ impl<B: TakesCalls> Board<B> {
     /// # Errors
     /// [`NoSuchTask`](Refusal::NoSuchTask)
     pub fn post_interrupt(&mut self, k: TaskNo) -> Answer {
-        done(self.make(Call::PostInterrupt { k }))
+        done(self.ask_words(2, k.0, 0))
     }
 
     /// The first task of that NAME in queue order.
@@ -136,7 +130,7 @@ impl<B: TakesCalls> Board<B> {
     /// # Errors
     /// None of its own.
     pub fn find(&mut self, name: u16) -> Answer<Option<TaskNo>> {
-        Ok(self.make(Call::Find { name })?.with(TaskNo::some))
+        Ok(self.ask_words(3, name, 0)?.with(TaskNo::some))
     }
 
     /// Task `k` is gone; it may be the running one. It must have no message, queued or held, be SPTR of none that is on a timer,
@@ -145,7 +139,7 @@ impl<B: TakesCalls> Board<B> {
     /// # Errors
     /// [`NoSuchTask`](Refusal::NoSuchTask), [`TaskBusy`](Refusal::TaskBusy)
     pub fn cancel_task(&mut self, k: TaskNo) -> Answer {
-        done(self.make(Call::CancelTask { k }))
+        done(self.ask_words(4, k.0, 0))
     }
 
     /// It holds the free message of the lowest number, all its fields 0.
@@ -153,7 +147,7 @@ impl<B: TakesCalls> Board<B> {
     /// # Errors
     /// [`NoneFree`](Refusal::NoneFree)
     pub fn claim(&mut self) -> Answer<MsgNo> {
-        Ok(self.make(Call::Claim)?.with(MsgNo))
+        Ok(self.ask_words(5, 0, 0)?.with(MsgNo))
     }
 
     /// Message `m`, which it holds, gets these fields. `stat` is any byte; `sptr` is the task that a return goes to, and a
@@ -162,7 +156,7 @@ impl<B: TakesCalls> Board<B> {
     /// # Errors
     /// [`NoSuchMessage`](Refusal::NoSuchMessage), [`NotHeld`](Refusal::NotHeld), [`BadSender`](Refusal::BadSender)
     pub fn prepare(&mut self, m: MsgNo, stat: u8, prio: Prio, sptr: Option<TaskNo>) -> Answer {
-        done(self.make(Call::Prepare { m, stat, prio, sptr: sptr.unwrap_or(TaskNo(0)) }))
+        done(self.ask(6, [m.0, sptr.map_or(0, |k| k.0), 0], stat, prio))
     }
 
     /// Message `m`, which it holds, is all zeros and free.
@@ -170,7 +164,7 @@ impl<B: TakesCalls> Board<B> {
     /// # Errors
     /// [`NoSuchMessage`](Refusal::NoSuchMessage), [`NotHeld`](Refusal::NotHeld)
     pub fn release(&mut self, m: MsgNo) -> Answer {
-        done(self.make(Call::Release { m }))
+        done(self.ask_words(7, m.0, 0))
     }
 
     /// Message `m`, which it holds, goes into task `r`'s queue by its PRIO, whose bit 0 is set then. RPTR becomes `r`; SPTR
@@ -180,7 +174,7 @@ impl<B: TakesCalls> Board<B> {
     /// # Errors
     /// [`NoSuchMessage`](Refusal::NoSuchMessage), [`NotHeld`](Refusal::NotHeld), [`NoSuchTask`](Refusal::NoSuchTask)
     pub fn send(&mut self, m: MsgNo, r: TaskNo) -> Answer {
-        done(self.make(Call::Send { m, r }))
+        done(self.ask_words(8, m.0, r.0))
     }
 
     /// [`send`](Board::send), and then as [`receive_and_wait`](Board::receive_and_wait).
@@ -188,7 +182,7 @@ impl<B: TakesCalls> Board<B> {
     /// # Errors
     /// As send.
     pub fn send_and_wait(&mut self, m: MsgNo, r: TaskNo) -> Answer {
-        done(self.make(Call::SendAndWait { m, r }))
+        done(self.ask_words(9, m.0, r.0))
     }
 
     /// Message `m`, which it holds, goes to the task in its RPTR, the one it was last sent to. It can't have priority 127.
@@ -197,7 +191,7 @@ impl<B: TakesCalls> Board<B> {
     /// [`NoSuchMessage`](Refusal::NoSuchMessage), [`NotHeld`](Refusal::NotHeld), [`NoSuchTask`](Refusal::NoSuchTask),
     /// [`BadPriority`](Refusal::BadPriority)
     pub fn resend(&mut self, m: MsgNo) -> Answer {
-        done(self.make(Call::Resend { m }))
+        done(self.ask_words(10, m.0, 0))
     }
 
     /// [`resend`](Board::resend), and then as [`receive_and_wait`](Board::receive_and_wait).
@@ -205,7 +199,7 @@ impl<B: TakesCalls> Board<B> {
     /// # Errors
     /// As resend.
     pub fn resend_and_wait(&mut self, m: MsgNo) -> Answer {
-        done(self.make(Call::ResendAndWait { m }))
+        done(self.ask_words(11, m.0, 0))
     }
 
     /// Message `m`, which it holds, goes to task `r`, and neither RPTR nor SPTR changes. It can't have priority 127.
@@ -214,7 +208,7 @@ impl<B: TakesCalls> Board<B> {
     /// [`NoSuchMessage`](Refusal::NoSuchMessage), [`NotHeld`](Refusal::NotHeld), [`NoSuchTask`](Refusal::NoSuchTask),
     /// [`BadPriority`](Refusal::BadPriority)
     pub fn forward(&mut self, m: MsgNo, r: TaskNo) -> Answer {
-        done(self.make(Call::Forward { m, r }))
+        done(self.ask_words(12, m.0, r.0))
     }
 
     /// [`forward`](Board::forward), and then as [`receive_and_wait`](Board::receive_and_wait).
@@ -222,7 +216,7 @@ impl<B: TakesCalls> Board<B> {
     /// # Errors
     /// As forward.
     pub fn forward_and_wait(&mut self, m: MsgNo, r: TaskNo) -> Answer {
-        done(self.make(Call::ForwardAndWait { m, r }))
+        done(self.ask_words(13, m.0, r.0))
     }
 
     /// Message `m`, which it holds, goes back to its sender, the task in its SPTR; neither RPTR nor SPTR changes. It can't have
@@ -232,7 +226,7 @@ impl<B: TakesCalls> Board<B> {
     /// [`NoSuchMessage`](Refusal::NoSuchMessage), [`NotHeld`](Refusal::NotHeld), [`NoSuchTask`](Refusal::NoSuchTask),
     /// [`BadPriority`](Refusal::BadPriority)
     pub fn return_message(&mut self, m: MsgNo) -> Answer {
-        done(self.make(Call::Return { m }))
+        done(self.ask_words(14, m.0, 0))
     }
 
     /// [`return_message`](Board::return_message), and then as [`receive_and_wait`](Board::receive_and_wait).
@@ -240,7 +234,7 @@ impl<B: TakesCalls> Board<B> {
     /// # Errors
     /// As return.
     pub fn return_and_wait(&mut self, m: MsgNo) -> Answer {
-        done(self.make(Call::ReturnAndWait { m }))
+        done(self.ask_words(15, m.0, 0))
     }
 
     /// It holds the first message of its queue, if there is one.
@@ -248,7 +242,7 @@ impl<B: TakesCalls> Board<B> {
     /// # Errors
     /// None of its own.
     pub fn receive(&mut self) -> Answer<Option<MsgNo>> {
-        Ok(self.make(Call::Receive)?.with(MsgNo::some))
+        Ok(self.ask_words(16, 0, 0)?.with(MsgNo::some))
     }
 
     /// With a message queued, it goes on and has been handed the first; else it waits for one (WAIT) and another task runs.
@@ -257,7 +251,7 @@ impl<B: TakesCalls> Board<B> {
     /// # Errors
     /// None of its own.
     pub fn receive_and_wait(&mut self) -> Answer {
-        done(self.make(Call::ReceiveAndWait))
+        done(self.ask_words(17, 0, 0))
     }
 
     /// Message `m`, whose SPTR is the running task, is taken out of task `r`'s queue, and the running task holds it. If `r` was
@@ -267,7 +261,7 @@ impl<B: TakesCalls> Board<B> {
     /// [`NoSuchMessage`](Refusal::NoSuchMessage), [`NoSuchTask`](Refusal::NoSuchTask), [`NotQueued`](Refusal::NotQueued),
     /// [`NotItsSender`](Refusal::NotItsSender)
     pub fn cancel_message(&mut self, m: MsgNo, r: TaskNo) -> Answer {
-        done(self.make(Call::CancelMessage { m, r }))
+        done(self.ask_words(18, m.0, r.0))
     }
 
     /// With an interrupt queued (INTQ), that one is used up and it goes on; else it waits for one (IWAT).
@@ -275,20 +269,9 @@ impl<B: TakesCalls> Board<B> {
     /// # Errors
     /// None of its own.
     pub fn wait_for_interrupt(&mut self) -> Answer {
-        done(self.make(Call::WaitForInterrupt))
+        done(self.ask_words(19, 0, 0))
     }
 
-    /// The call as a value: the method that it names, but the value of the answer is a number, 0 for none.
-    ///
-    /// # Errors
-    /// As that method.
-    pub fn make(&mut self, call: Call) -> Answer<u16> {
-        self.0.make(call)
-    }
-}
-
-/// The station timer.
-impl<B: AsMut<[u8]>> Board<B> {
     /// Message `m`, which it holds, goes on the free timer of the lowest number and is due after `delay` ticks, 1 to 65,535 (12.8
     /// ms to 838.8 s). The first of them may be moments away: for a time that is not to be shorter, add one. The record stays as
     /// it is; SPTR must be a task that is there, and the priority can't be 127. See [`Timer`].
@@ -310,39 +293,14 @@ impl<B: AsMut<[u8]>> Board<B> {
     pub fn tick<T: AsMut<[u8]>>(&mut self, timer: &mut Timer<T>) -> Answer {
         done(unpack(sys::tick(self.0.as_mut(), timer.as_bytes_mut())))
     }
-}
 
-/// Replay, where the bytes are known to be 1,476.
-impl<B: BorrowMut<[u8; BYTES]>> Board<B> {
-    /// Replays a whole trace. The board becomes the one that the replay ends with, whatever it held: it starts from the fresh
-    /// board, and each call is made once its answer is read. [`Replayer`](crate::Replayer) does the same in parts.
-    ///
-    /// A trace is a row of records, a kind byte and a body each: of a [`Call`], and behind it of its answer,
-    /// [`Recorded`](crate::Recorded). A [`Recorder`](crate::Recorder) writes one. It knows no timer, as no record says that one
-    /// was started. Replay follows the rules of today: where a trace is from the time when an equal pushed the running task
-    /// aside, its answers may differ in who runs.
-    ///
-    /// ```
-    /// use station::{Board, Call, Ended, Flaw, Recorded, TaskNo};
-    ///
-    /// // task 3 is installed; a claim, which should have given message 1; and the beginning of a record
-    /// let trace = [1, 3, 0, 5, 0x33, 0x34, 0x12, 0x54, 0x41, 20, 0, 0, 0, 3, 0, 0, 0, 5, 20, 0, 2, 0, 3, 0, 0, 0, 8, 1];
-    /// let mut board = Board::fresh();
-    /// assert_eq!(board.replay(&trace), Ended::Differs { offset: 17 });
-    /// assert_eq!(board.check().unwrap().running, Some(TaskNo(3)));
-    ///
-    /// // the call, and the answer that was recorded
-    /// let (call, length) = Call::from_record(&trace[17..])?;
-    /// assert_eq!((call, Recorded::from_record(&trace[17 + length..])?.value), (Call::Claim, 2));
-    ///
-    /// let mut mended = trace;
-    /// mended[20] = 1;
-    /// assert_eq!(board.replay(&mended[..26]), Ended::NoneDiffers { length: 26 });
-    /// assert_eq!(board.replay(&mended), Ended::Stopped { flaw: Flaw::Short, offset: 26 });
-    /// # Ok::<(), Flaw>(())
-    /// ```
-    pub fn replay(&mut self, trace: &[u8]) -> Ended {
-        replay(trace, self.0.borrow_mut())
+    /// A call without STAT and PRIO.
+    fn ask_words(&mut self, kind: u8, a: u16, b: u16) -> Answer<u16> {
+        self.ask(kind, [a, b, 0], 0, Prio(0))
+    }
+
+    fn ask(&mut self, kind: u8, words: [u16; 3], stat: u8, prio: Prio) -> Answer<u16> {
+        unpack(sys::call(self.0.as_mut(), kind, words, stat, prio.0))
     }
 }
 

@@ -1,5 +1,5 @@
-//! The station's board: tasks, message blocks and queues in 1,476 bytes, and the nineteen calls on it; beside it the station
-//! timer, for messages that come back later; and traces of calls, recorded and replayed.
+//! The station's board: tasks, message blocks and queues in 1,476 bytes, and the nineteen calls on it; and beside it the station
+//! timer, for messages that come back later.
 //!
 //! The work is done by the library `station`, which is proved to do exactly what document 01 says: each call, on any bytes and
 //! any arguments, ends with an answer and touches nothing but the board, and start and tick the timer. This crate gives its calls
@@ -8,9 +8,6 @@
 //! A [`Board`] is owned, or lent from a longer buffer of any length without a copy ([`Board::lent`]), and so is a [`Timer`]. A
 //! board that was saved when byte 1 was always zero goes through [`Board::convert`] first. Names in capitals are the fields of
 //! the MITE-80 manual, 3.2 and 3.3.
-//!
-//! A [`Recorder`] writes its calls down with their answers while it makes them. Whether a station that recorded so did what
-//! document 01 says, and where it first did not, tells [`Board::replay`], or a [`Replayer`], which takes the trace in parts.
 //!
 //! To use it, name this folder as a path dependency and build the library first: `rt staticlib station` at the top of the
 //! repository writes it for x86-64, and `tests/libraries` compiles it for another processor. If it lies elsewhere,
@@ -59,12 +56,7 @@ extern crate std;
 
 mod answer;
 mod board;
-mod call;
 mod numbers;
-mod record;
-#[cfg(feature = "std")]
-mod recorder;
-mod replay;
 mod rule;
 #[allow(unsafe_code)]
 mod sys;
@@ -72,12 +64,7 @@ mod timer;
 
 pub use answer::{Accepted, Answer, Refusal};
 pub use board::Board;
-pub use call::{Call, TakesCalls};
 pub use numbers::{MsgNo, Prio, Status, TaskNo};
-pub use record::{Flaw, Recorded};
-#[cfg(feature = "std")]
-pub use recorder::{Recorder, Tape, Unwritten};
-pub use replay::{Ended, NoReplay, Replayer, Report};
 pub use rule::Rule;
 pub use timer::Timer;
 
@@ -91,5 +78,3 @@ pub const MESSAGES: u16 = 128;
 pub const TIMER_BYTES: usize = 50;
 /// So many messages can be on the timer at once.
 pub const TIMERS: usize = 16;
-/// The bytes of a replay in parts.
-pub const STATE_BYTES: usize = 1536;

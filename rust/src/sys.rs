@@ -1,4 +1,4 @@
-//! The eight functions of the library, with the slices as pointer and length. All that is `unsafe` is here.
+//! The six functions of the library, with the slices as pointer and length. All that is `unsafe` is here.
 extern "C" {
     fn station_fresh(board: *mut u8, len: usize) -> u64;
     fn station_check(board: *const u8, len: usize) -> u64;
@@ -6,8 +6,6 @@ extern "C" {
     fn station_call(board: *mut u8, len: usize, kind: u8, a: u16, b: u16, c: u16, stat: u8, prio: u8) -> u64;
     fn station_start(board: *mut u8, len: usize, timer: *mut u8, timer_len: usize, m: u16, delay: u16) -> u64;
     fn station_tick(board: *mut u8, len: usize, timer: *mut u8, timer_len: usize) -> u64;
-    fn station_replay(trace: *const u8, trace_len: usize, board: *mut u8, len: usize) -> u64;
-    fn station_replay_part(state: *mut u8, state_len: usize, part: *const u8, part_len: usize, last: u8) -> u64;
 }
 
 pub(crate) fn fresh(board: &mut [u8]) -> u64 {
@@ -38,14 +36,4 @@ pub(crate) fn start(board: &mut [u8], timer: &mut [u8], m: u16, delay: u16) -> u
 pub(crate) fn tick(board: &mut [u8], timer: &mut [u8]) -> u64 {
     // SAFETY: as above
     unsafe { station_tick(board.as_mut_ptr(), board.len(), timer.as_mut_ptr(), timer.len()) }
-}
-
-pub(crate) fn replay(trace: &[u8], board: &mut [u8]) -> u64 {
-    // SAFETY: as above, and the trace is read only
-    unsafe { station_replay(trace.as_ptr(), trace.len(), board.as_mut_ptr(), board.len()) }
-}
-
-pub(crate) fn replay_part(state: &mut [u8], part: &[u8], last: bool) -> u64 {
-    // SAFETY: as above
-    unsafe { station_replay_part(state.as_mut_ptr(), state.len(), part.as_ptr(), part.len(), last.into()) }
 }

@@ -4,10 +4,7 @@
 //! it fresh, kind 253 converts an old one) and the board. Kind 200 starts a timer, and kind 201 is a tick: with these two the
 //! timer comes behind the board, its length first. Its answer is a line: refusal, value, running, delivered, rule, record, each
 //! byte of the board that has changed, and each of the timer, marked by t.
-//!
-//! The traces are each its length as a word and its bytes. Their answers are two lines each, as the program of the request writes
-//! them: how the replay ends, and the board in hexadecimal digits.
-use station::{Answer, Board, Ended, MsgNo, Prio, Refusal, Replayer, Status, TaskNo, Timer};
+use station::{Answer, Board, MsgNo, Prio, Refusal, Status, TaskNo, Timer};
 use std::{fmt::Write, path::Path, process::Command};
 
 const START: u8 = 200;
@@ -156,35 +153,4 @@ fn timer_boards() {
 #[test]
 fn cases_of_an_independent_model() {
     ["outside_check", "outside_history", "outside_damaged", "outside_convert", "outside_timer"].into_iter().for_each(compare);
-}
-
-fn told_of_replay(ended: Ended, board: &[u8]) -> String {
-    let verdict = match ended {
-        Ended::NoneDiffers { .. } => "agree".to_string(),
-        Ended::Differs { offset } => format!("differs {offset}"),
-        Ended::Stopped { flaw, offset } => format!("stopped {} {offset}", flaw.number()),
-    };
-    board.iter().fold(verdict + "\n", |said, byte| said + &format!("{byte:02x}"))
-}
-
-#[test]
-fn traces_of_an_independent_model() {
-    let cases = unzipped("outside_traces.cases.gz");
-    let answers = String::from_utf8(unzipped("outside_traces.answers.gz")).expect("answers are text");
-    let (mut rest, mut lines) = (&cases[..], answers.lines());
-    while let (Some(verdict), Some(digits)) = (lines.next(), lines.next()) {
-        let len = take_len(&mut rest);
-        let trace = take(&mut rest, len);
-        let want = format!("{verdict}\n{digits}");
-        let mut board = Board::fresh();
-        assert_eq!(told_of_replay(board.replay(trace), board.as_bytes()), want);
-        for size in [1, 2, 3, 7, 17, 64] {
-            let mut replayer = Replayer::new();
-            for part in trace.chunks(size) {
-                replayer.feed(part);
-            }
-            assert_eq!(told_of_replay(replayer.finish(), replayer.board().as_bytes()), want);
-        }
-    }
-    assert!(!cases.is_empty() && rest.is_empty(), "an answer for each trace");
 }

@@ -1,4 +1,3 @@
 pub mod Packed
-pub mod ReportWord
 pub mod Asked
 pub mod Claims

@@ -18,7 +18,7 @@ pub struct MessageSpot {
 }
 
 // One of priority number p goes before one of number x: LIFO before its equals, FIFO behind them.
-pub fn goes_before_lem(fifo: bool, p: u8, x: u8) -> bool
+pub fn goes_before(fifo: bool, p: u8, x: u8) -> bool
     ensures { result ≡ goes_before fifo p x }
 {
     if fifo {
@@ -43,7 +43,7 @@ pub fn spot_for_message(z: Size, l: &[u8], r: TaskNo, fifo: bool, p: u8) -> Mess
                 cur: cur,
             };
         };
-        if goes_before_lem(fifo, p, number(prio_of(z, l, m))) {
+        if goes_before(fifo, p, number(prio_of(z, l, m))) {
             break;
         }
         prev = cur;

@@ -23,8 +23,9 @@ use Rattle.paper.specs.Named.{broken_rule}
 use Rattle.paper.specs.Refusals.{test, no2_by, given}
 use Rattle.paper.specs.Outcomes.{Outcome, Ends, accepted, refused, judge, blank, fresh, check}
 use Rattle.paper.specs.Conversion.{old_passes, old_broken, converted, convert}
-use Rattle.linked.proofs.Chosen.{first_numbered, first_meant}
-use Rattle.passing_call.proofs.Passed.{runs-named}
+use Rattle.linked.proofs.Chosen.{awake-meant, first_numbered, first_meant}
+use Rattle.linked.proofs.Theorems.{passes_exactly}
+use Rattle.kept.proofs.Theorems.{small-sizes}
 use Rattle.rules.specs.declared.Edition.TheVariants.{Today, Old}
 use Rattle.rules.specs.declared.Checked.{Checked}
 use Rattle.rules.specs.declared.Checked.TheVariants.{Passes, Broken}
@@ -96,6 +97,13 @@ module _ (l : List ℕ) {x : Checked} (ex : x ≡ checked_of Today small (board_
 
   pub today_kept : {w : TaskMeant} → x ≡ Passes w → (passes small (board_of small l) ≡ true) × (w ≡ task_meant small (board_of small l).running)
   today_kept = let b = board_of small l in rules_kept (passes small b) (task_meant small b.running) (broken_rule small b) ex
+
+-- on a board that passes byte 1 is the number of the task that it names
+pub runs-named : (l : List ℕ) → passes small (board_of small l) ≡ true
+    → number_of_task (task_meant small (board_of small l).running) ≡ (board_of small l).running
+runs-named l e =
+    awake-meant small (board_of small l) (length-tasks small l) (board_of small l).running
+    (λ n. (((passes_exactly small l small-sizes.limit).0 e).runs.leads n).awake)
 
 -- ---- check and conversion: by the length and the rules, of which r is to be named, or else accepted with o
 abbrev judged : List ℕ → Rule → Outcome → Bool → Bool → Outcome

@@ -1,4 +1,5 @@
 pub mod Answers
 pub mod Stepping
 pub mod Timing
+pub mod Fitted
 pub mod Told

@@ -38,8 +38,7 @@ use Rattle.rules.specs.Checked.{checked_of}
 use Rattle.station.specs.declared.both_pass.BothPass.{BothPass}
 use Rattle.station.specs.declared.both_pass.BothPass.TheVariants.{Not, Runs}
 use Rattle.station.specs.BothPass.{unless_stopped, both_pass}
-use Rattle.passing_call.proofs.Passed.{runs-named}
-use Rattle.station.proofs.Answers.{sized_not, sized-long, today_broken, today_kept}
+use Rattle.station.proofs.Answers.{sized_not, sized-long, today_broken, today_kept, runs-named}
 
 -- ---- 1, 2 and 18: s is the test of the length
 module _ (l buffer : List ℕ) {s : Bool} (es : s ≡ eqb (length l) (total small)) where

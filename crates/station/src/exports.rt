@@ -7,13 +7,10 @@ ghost use Rattle.paper.specs.Conversion.{convert};
 ghost use Rattle.timing.specs.Timing.{start, tick};
 ghost use Rattle.for_c.specs.Packed.{packed};
 ghost use Rattle.for_c.specs.Asked.{asked_of};
-ghost use Rattle.for_c.specs.ReportWord.{report_word};
-ghost use Rattle.traces.specs.States.{replay_on, replay_part};
 ghost use Rattle.station.specs.Called.{word_for, left_for, TellsTimed};
 
 use for_c::asked::{Asked, call_of_kind};
 use for_c::pack::pack;
-use for_c::report::pack_report;
 
 #[unsafe(no_mangle)]
 pub extern "C" fn station_fresh(board: &mut [u8]) -> u64
@@ -67,18 +64,4 @@ pub extern "C" fn station_tick(board: &mut [u8], timer: &mut [u8]) -> u64
     ensures { TellsTimed result board.new timer.new (tick small board.old timer.old) }
 {
     pack(crate::tick(board, timer))
-}
-
-#[unsafe(no_mangle)]
-pub extern "C" fn station_replay(trace: &[u8], board: &mut [u8]) -> u64
-    ensures { (result ≡ report_word (replay_on trace.now board.old).report) × (board.new ≡ (replay_on trace.now board.old).after) }
-{
-    pack_report(crate::replay(trace, board))
-}
-
-#[unsafe(no_mangle)]
-pub extern "C" fn station_replay_part(state: &mut [u8], part: &[u8], last: u8) -> u64
-    ensures { (result ≡ report_word (replay_part state.old part.now last).report) × (state.new ≡ (replay_part state.old part.now last).after) }
-{
-    pack_report(crate::replay_part(state, part, last))
 }

@@ -1,8 +1,6 @@
 // PROMISE. The station's board for its callers: making a fresh board, checking one, converting a saved one, the nineteen calls, and start and
 // tick with a timer buffer, on lent bytes of any length and content. Read for the contracts: each says the answer and every byte afterwards
 // by one definition (paper, Outcomes and Conversion; timing, Timing).
-#![tactic(auto)]
-
 mod both_pass;
 pub mod exports;
 
@@ -12,22 +10,17 @@ ghost use Rattle.board.specs.Board.{total, board_of};
 ghost use Rattle.paper.specs.Outcomes.{Ends, effect, fresh, check};
 ghost use Rattle.paper.specs.Conversion.{convert};
 ghost use Rattle.timing.specs.Timing.{EndsTimed, start, tick};
-ghost use Rattle.traces.specs.States.{Reports, state_length, is_left, replay_on, replay_part};
 ghost use Rattle.rules.specs.Checked.{checked_of};
 
 use board::numbers::Size;
 use both_pass::{BothPass, both_pass};
+use calls::make_call;
 use lent::bytes::put_running;
 use paper::answer::{Answer, Refusal};
 use paper::call::Call;
-use passing_call::call_passing;
-use replay_parts::feed;
-use replay_state::{none_timed, own_left};
-use replays::replay_fresh;
 use rules::{Checked, Edition, check_rules};
 use timer_calls::start::make_start;
 use timer_calls::tick::make_tick;
-use traces::report::Report;
 
 // The board is made all zeros, whatever it held: accepted with three zeros, or 1.
 pub fn fresh(l: &mut [u8]) -> Answer
@@ -98,7 +91,7 @@ pub fn step(l: &mut [u8], call: Call) -> Answer
     let checked = checked_small(Edition::Today, l);
     match checked {
         Checked::Broken(r) => Answer::Refused(Refusal::RuleBroken(r)),
-        Checked::Passes(c) => call_passing(l, c, call),
+        Checked::Passes(c) => make_call(Size::SMALL, l, c, call),
     }
 }
 
@@ -121,46 +114,6 @@ pub fn tick(l: &mut [u8], s: &mut [u8]) -> Answer
     match passed {
         BothPass::Not(q) => Answer::Refused(q),
         BothPass::Runs(c) => make_tick(Size::SMALL, l, s, c),
-    }
-}
-
-// Replay of a whole trace. The board is lent for the result, and written whole whatever it held.
-pub fn replay(trace: &[u8], l: &mut [u8]) -> Report
-    ensures { Reports result l.new (replay_on trace.now l.old) }
-{
-    if !sized(l) {
-        return Report::WrongLength;
-    }
-    fresh(l);
-    Report::Ended(replay_fresh(trace, l))
-}
-
-// Replay in parts: the next part, and whether it is the last. The state is lent, all zeros before the first part; its board stands first.
-pub fn replay_part(s: &mut [u8], part: &[u8], last: u8) -> Report
-    ensures { Reports result s.new (replay_part s.old part.now last) }
-{
-    if s.len() != 1536 {
-        return Report::WrongLength;
-    }
-    if !is_left(s) {
-        return Report::NoReplay;
-    }
-    feed(s, part, last)
-}
-
-// The bytes can be what a replay leaves.
-fn is_left(s: &[u8]) -> bool
-    requires { length s.now ≡ state_length }
-    ensures { result ≡ is_left s.now }
-{
-    if !own_left(s) {
-        return false;
-    }
-    let board: usize = 1476;
-    let checked = checked_small(Edition::Today, &s[..board]);
-    match checked {
-        Checked::Broken(_) => false,
-        Checked::Passes(_) => none_timed(&s[..board]),
     }
 }
 

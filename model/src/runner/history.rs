@@ -5,7 +5,6 @@ use super::random::Random;
 use crate::board::{word, Board, MsgNo, Status, TaskNo, BOARD_LEN, MESSAGES, SENDERS_PRIORITY, TASKS};
 use crate::check::running;
 use crate::timer::{set_now, Timer, TIMER_LEN};
-use crate::Answer;
 
 /// How often each of the nineteen kinds, start and tick are tried.
 type Weights = [u8; 21];
@@ -82,14 +81,14 @@ impl History {
         self.calls_left == 0 || self.calls_without_running > 12
     }
 
-    /// Makes the request on the board, if it is a call, a start or a tick, and hands back its answer.
-    pub fn advance(&mut self, request: &Request) -> Option<Answer> {
-        let is_made = request.call().is_some() || request.takes_timer();
-        let answer = is_made.then(|| request.make(&mut self.board, &mut self.timer)).flatten();
+    /// Makes the request on the board.
+    pub fn advance(&mut self, request: &Request) {
+        if request.call().is_some() || request.takes_timer() {
+            request.make(&mut self.board, &mut self.timer);
+        }
         self.calls_left -= 1;
         let runs = running(&self.board).is_some();
         self.calls_without_running = if runs { 0 } else { self.calls_without_running + 1 };
-        answer
     }
 
     /// The next request: mostly one that fits the board, at times with one argument that may not, at times any at all.
