@@ -1,0 +1,15 @@
+-- `lent::bytes::place_at` meets its contract.
+use mathlib.Core.Path.{refl}
+use Rattle.lent.proofs.Access.{place_beyond, place_reads}
+use Rattle.lent.proofs.bytes.place_at.Goals as goal
+
+pub returns-then-z-n : goal.returns-then-z-n
+returns-then-z-n c =
+    let a = c.args in
+    place_beyond a.z a.l.now a.m.0 _ c.number-n.ensures c.if-z-n.true
+
+pub returns : goal.returns
+returns c =
+    let a = c.args in
+    place_reads a.z a.l.now a.m.0 _ _ _ _ c.number-n.ensures c.if-n-eq0.false c.if-z-n.false refl
+    c.byte_in.ensures c.of.ensures

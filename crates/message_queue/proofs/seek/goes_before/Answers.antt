@@ -1,0 +1,8 @@
+-- `message_queue::seek::goes_before_lem` meets its contract.
+use Rattle.message_queue.proofs.seek.goes_before.Goals as goal
+
+pub returns-then-fifo : goal.returns-then-fifo
+returns-then-fifo c = rw c.if-fifo.true
+
+pub returns : goal.returns
+returns c = rw c.if-fifo.false

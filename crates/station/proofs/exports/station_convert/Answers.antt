@@ -1,0 +1,10 @@
+-- `station::exports::station_convert` meets its contract.
+use mathlib.Core.Path.{ap, ◌∙◌}
+use Rattle.paper.specs.declared.answer.Answer.{Answer}
+use Rattle.paper.specs.Answers.{handed}
+use Rattle.for_c.specs.Packed.{packed}
+use Rattle.station.proofs.exports.station_convert.Goals as goal
+
+pub returns : goal.returns
+returns c =
+    (c.pack.ensures ∙ ap (λ (a : Answer). packed (handed a)) c.convert.ensures.answers, c.convert.ensures.leaves)
