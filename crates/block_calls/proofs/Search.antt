@@ -6,8 +6,6 @@ use mathlib.Core.List.{List, [], ◌∷◌}
 use Prim.Native.Nat.{ℕ, ◌+◌, ◌≤◌, ◌<◌}
 use native.Mathlib.Omega.{arith}
 use borrow.Author.Tests.{not-true}
-use denote.Enum.Declared.{tag_of}
-use types.Run.{OneOf, miss}
 use Rattle.links.proofs.Bools.{both}
 use Rattle.board.specs.declared.numbers.Size.{Size}
 use Rattle.board.specs.declared.numbers.MessageMeant.{MessageMeant}
@@ -17,7 +15,6 @@ use Rattle.board.specs.declared.places.Place.TheVariants.{Free, HeldBy, QueuedAt
 use Rattle.board.specs.Numbers.{message_meant}
 use Rattle.board.specs.Places.{is_free}
 use Rattle.board.specs.Board.{Board, board_of, place}
-use Rattle.board.specs.contracts.places.Place.{the_type}
 use Rattle.paper.specs.Effects.{lowest_free}
 use Rattle.inner.proofs.Searching.{found_above, found_here, found_above_lem, found_none}
 use Rattle.four_places.specs.Fours.{in_use, none_free}
@@ -27,16 +24,13 @@ use Rattle.four_places.proofs.Groups.{four_within}
 abbrev pub Sought : Board → ℕ → Type 0
 Sought b m = found_above is_free b m ≡ lowest_free b
 
--- the code met another variant than Free, which is variant 0
-abbrev others : List ℕ
-others = 1 ∷ 2 ∷ 3 ∷ 4 ∷ []
-
-not_free : (p : Place) → OneOf others (tag_of the_type p) → is_free p ≡ false
-not_free Free i = absurd (miss others 0 tt i)
-not_free (HeldBy k) i = refl
-not_free (QueuedAt k) i = refl
-not_free OnTimer i = refl
-not_free (Nowhere n) i = refl
+-- the code met another variant than Free
+not_free : (p : Place) → (p ≡ Free → ⊥) → is_free p ≡ false
+not_free Free h = absurd (h refl)
+not_free (HeldBy k) h = refl
+not_free (QueuedAt k) h = refl
+not_free OnTimer h = refl
+not_free (Nowhere n) h = refl
 
 module _ (z : Size) (l : List ℕ) where
   abbrev b : Board
@@ -72,5 +66,5 @@ module _ (z : Size) (l : List ℕ) where
       free_here f ex = ex ∙ ap (message_meant z) (found_here (λ x. x) is_free z l m inv h (ap is_free (sym e ∙ f)))
 
       -- it is not
-      pub free_above : OneOf others (tag_of the_type p) → Sought b (m + 1)
+      pub free_above : (p ≡ Free → ⊥) → Sought b (m + 1)
       free_above f = found_above_lem (λ x. x) is_free z l m inv h (ap is_free (sym e) ∙ not_free p f)

@@ -5,15 +5,12 @@ use mathlib.Core.List.{List, [], ◌∷◌}
 use Prim.Native.Nat.{ℕ, ◌+◌, ◌*◌, ◌<◌}
 use native.Mathlib.Omega.{arith}
 use lib.Dec.{lit<}
-use denote.Enum.Declared.{tag_of}
-use types.Run.{OneOf, miss}
 use Rattle.paper.specs.declared.answer.Rule.{Rule}
 use Rattle.paper.specs.declared.answer.Refusal.{Refusal}
 use Rattle.paper.specs.declared.answer.Refusal.TheVariants.{RuleBroken}
 use Rattle.paper.specs.declared.answer.Answer.{Answer}
 use Rattle.paper.specs.declared.answer.Answer.TheVariants.{Accepted, Refused}
 use Rattle.paper.specs.Answers.{rule_number, record_number, told, number_of, handed}
-use Rattle.paper.specs.contracts.answer.Refusal.{the_type}
 use Rattle.paper.proofs.Theorems.{number_2, others_told}
 use Rattle.paper.proofs.Naming.{rule-number}
 use Rattle.for_c.specs.Packed.{packed}
@@ -28,15 +25,13 @@ named_rule {r = r} e p n w h =
     let last = (rule-number r).1 in
     (omega arith, omega arith)
 
--- any other: the code met a variant that is not RuleBroken, which is variant 1, counted from 0
-abbrev others : List ℕ
-others = 0 ∷ 2 ∷ 3 ∷ 4 ∷ 5 ∷ 6 ∷ 7 ∷ 8 ∷ 9 ∷ 10 ∷ 11 ∷ 12 ∷ 13 ∷ 14 ∷ 15 ∷ 16 ∷ 17 ∷ []
-
-pub named_none : (q : Refusal) → OneOf others (tag_of the_type q) → (0 ≡ (told q).rule + 256 * (told q).record_no) × (0 < 16777216)
-named_none q i = let (rule, record_no) = others_told q other in (omega arith, lit< tt)
+-- any other
+pub named_none : (q : Refusal) → ((r : Rule) → q ≡ RuleBroken r → ⊥)
+    → (0 ≡ (told q).rule + 256 * (told q).record_no) × (0 < 16777216)
+named_none q h = let (rule, record_no) = others_told q other in (omega arith, lit< tt)
   where
     other : number_of q ≢ 2
-    other e = let (r, is) = number_2 q e in miss others 1 tt (subst (λ (x : Refusal). OneOf others (tag_of the_type x)) is i)
+    other e = let (r, is) = number_2 q e in h r is
 
 -- ---- an answer
 module _ {a : Answer} where

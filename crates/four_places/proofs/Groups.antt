@@ -42,7 +42,7 @@ module _ (z : Size) (l : List ℕ) where
         && (used-byte (m + 2) (o + 1) (omega arith) (omega arith) (omega arith) i
         && (used-byte (m + 3) (o + 2) (omega arith) (omega arith) (omega arith) i
         && (used-byte (m + 4) (o + 3) (omega arith) (omega arith) (omega arith)
-        ∙ sym (bool.and_true (not (eqb (get_or l (o + 3) 0) 0)))) i)))
+        ∙ sym (bool.and-true (not (eqb (get_or l (o + 3) 0) 0)))) i)))
 
     -- the fourth is beyond the board, and so reads as free
     pub four_beyond : z.messages < m + 4 → none_free (board_of z l) m ≡ false

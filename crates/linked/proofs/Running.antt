@@ -45,7 +45,10 @@ first_with_lem f (x ∷ q) h = step (f x) refl (first_with_lem f q)
     step : (t : Bool) → f x ≡ t → (first_with f q ≢ 0 → In (first_with f q) q × (f (first_with f q) ≡ true))
         → In (first_with f (x ∷ q)) (x ∷ q) × (f (first_with f (x ∷ q)) ≡ true)
     step true e ih = rw (e, first_with) (inl refl, e)
-    step false e ih = let r = ih (rw (e, first_with) at h) in rw (e, first_with) (inr r.0, r.1)
+    step false e ih =
+        let eq : first_with f (x ∷ q) ≡ first_with f q = rw (e, first_with) in
+        let r = ih (rw eq at h) in
+        subst (λ (n : ℕ). In n (x ∷ q) × (f n ≡ true)) (sym eq) (inr r.0, r.1)
 
 -- where there is none, none passes
 pub first_none : (f : ℕ → Bool) (q : List ℕ) → Out 0 q → first_with f q ≡ 0 → (x : ℕ) → In x q → f x ≡ false

@@ -36,7 +36,7 @@ zeros_read [] = refl
 zeros_read (x ∷ []) = refl
 zeros_read (x ∷ y ∷ []) = refl
 zeros_read (x ∷ y ∷ u ∷ []) = refl
-zeros_read (x ∷ y ∷ u ∷ v ∷ l) = ap (λ (t : Bool). eqb u 0 && t) (bool.and_true (eqb v 0))
+zeros_read (x ∷ y ∷ u ∷ v ∷ l) = ap (λ (t : Bool). eqb u 0 && t) (bool.and-true (eqb v 0))
 
 -- ---- a message by either edition
 module _ (z : Size) (there : ℕ → Bool) (u : Message) where
@@ -47,7 +47,7 @@ module _ (z : Size) (there : ℕ → Bool) (u : Message) where
     where
       off_by : (edition : Edition) → good_message z there u q ≡ good_by edition z there u q
       off_by Today = refl
-      off_by Old = sym (ap (λ (t : Bool). good_message z there u q && not t) off ∙ bool.and_true (good_message z there u q))
+      off_by Old = sym (ap (λ (t : Bool). good_message z there u q && not t) off ∙ bool.and-true (good_message z there u q))
 
   -- where boards were saved there was none
   pub good_old : (edition : Edition) → edition ≡ Old → false ≡ good_by edition z there u OnTimer

@@ -44,7 +44,7 @@ pub loop-m-2-preserved : goal.loop-m-2-preserved
 loop-m-2-preserved c =
     let a = c.args in
     let seen = c.place_meant-p.ensures in
-    (c.loop-m-2.invariant.0, free_above a.z a.l.now c.loop-m-2.m c.loop-m-2.invariant.1 (omega arith) seen c.in_default.keys2 {-?-})
+    (c.loop-m-2.invariant.0, free_above a.z a.l.now c.loop-m-2.m c.loop-m-2.invariant.1 (omega arith) seen c.in_default.not-Free)
 
 pub returns : goal.returns
 returns c =

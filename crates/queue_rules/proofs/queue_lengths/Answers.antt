@@ -71,7 +71,7 @@ loop-m-preserved c =
       refl,
       p.invariant.2,
       lengths_same (board_of a.z a.l.now) p.m p.lengths p.invariant.3
-          (not_queued _ c.place_meant-p.result c.place_meant-p.ensures c.in_default.keys2 {-?-}),
+          (not_queued _ c.place_meant-p.result c.place_meant-p.ensures c.in_default.not-QueuedAt),
     )
 
 pub returns : goal.returns

@@ -11,7 +11,7 @@ use Rattle.timer_rules.proofs.count_used.Given as goal
 
 abbrev pub invariant-loop-i : goal.invariant-loop-i
 invariant-loop-i l =
-    (l.i ≤ 16) × (each (good_entry (board_of l.z l.l) (timer_of l.s)) l.i ≡ true) × (l.n ≡ counted (λ l.i. is_used (entry (timer_of l.s) l.i)) l.i)
+    (l.i ≤ 16) × (each (good_entry (board_of l.z l.l) (timer_of l.s)) l.i ≡ true) × (l.n ≡ counted (λ i. is_used (entry (timer_of l.s) i)) l.i)
 
 abbrev pub decreases-loop-i : goal.decreases-loop-i
 decreases-loop-i l = 16 - l.i

@@ -60,4 +60,4 @@ pub returns-in-19 : goal.returns-in-19
 returns-in-19 c = rw c.in-19.is
 
 pub returns-in_default : goal.returns-in_default
-returns-in_default c = no_call c.args.kind _ _ _ _ _ (above _ 19 c.args.kind c.in_default.rest)
+returns-in_default c = no_call c.args.kind _ _ _ _ _ (above _ 19 c.args.kind c.in_default.in_default-own.rest)

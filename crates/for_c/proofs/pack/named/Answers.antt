@@ -3,7 +3,7 @@ use Rattle.for_c.proofs.Packing.{named_none, named_rule}
 use Rattle.for_c.proofs.pack.named.Goals as goal
 
 pub returns-in_default : goal.returns-in_default
-returns-in_default c = named_none c.args.q c.in_default.keys2 {-?-}
+returns-in_default c = named_none c.args.q c.in_default.not-RuleBroken
 
 pub returns : goal.returns
 returns c =

@@ -1,4 +1,4 @@
--- `message_queue::seek::goes_before_lem` meets its contract.
+-- `message_queue::seek::goes_before` meets its contract.
 use Rattle.message_queue.proofs.seek.goes_before.Goals as goal
 
 pub returns-then-fifo : goal.returns-then-fifo

@@ -1,4 +1,5 @@
 -- `message_queue::seek::spot_of_message` meets its contract.
+use lib.Dec.{eqb}
 use mathlib.Core.Path.{refl, ap}
 use native.Mathlib.Omega.{arith}
 use Rattle.board.specs.Numbers.{number_of_message}
@@ -18,7 +19,7 @@ loop-left-init c = record {
 pub returns-in_default : goal.returns-in_default
 returns-in_default c =
     let a = c.args in
-    message_spot_lem a.z a.l.now a.r.0 _ _ _ _ _ c.task_at-t.ensures c.first-cur.ensures
+    message_spot_lem a.z a.l.now a.r.0 (λ y. eqb y a.x.0) _ _ _ _ c.task_at-t.ensures c.first-cur.ensures
     (ended c.loop-left.invariant (ap number_of_message c.in_default.is))
 
 pub loop-left-smaller : goal.loop-left-smaller
@@ -35,12 +36,12 @@ loop-left-preserved c =
 pub returns-after-loop-left : goal.returns-after-loop-left
 returns-after-loop-left c =
     let a = c.args in
-    message_spot_lem a.z a.l.now a.r.0 _ _ _ _ _ c.task_at-t.ensures c.first-cur.ensures
+    message_spot_lem a.z a.l.now a.r.0 (λ y. eqb y a.x.0) _ _ _ _ c.task_at-t.ensures c.first-cur.ensures
     (spent c.loop-left.invariant c.loop-left-test.false)
 
 pub returns-then-number : goal.returns-then-number
 returns-then-number c =
     let a = c.args in
-    message_spot_lem a.z a.l.now a.r.0 _ _ _ _ _ c.task_at-t.ensures c.first-cur.ensures
+    message_spot_lem a.z a.l.now a.r.0 (λ y. eqb y a.x.0) _ _ _ _ c.task_at-t.ensures c.first-cur.ensures
     (stopped (message-kind a.z) c.loop-left.invariant _ c.in-Message.is
     (is_it c.number.ensures c.number-in-loop-left.ensures c.if-number.true))

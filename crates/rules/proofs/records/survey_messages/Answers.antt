@@ -71,7 +71,7 @@ loop-m-preserved c =
           ∙ ap₂ (good_by a.edition a.z (present b)) c.message_meant-u.ensures c.place_meant-p.ensures)
           ∙ not-false _ c.if-not-good_message.false-raw),
       count_no _ _ _ p.invariant.3
-          (not_queued _ c.place_meant-p.result c.place_meant-p.ensures c.in_default.keys2 {-?-}),
+          (not_queued _ c.place_meant-p.result c.place_meant-p.ensures c.in_default.not-QueuedAt),
     )
 
 pub returns : goal.returns

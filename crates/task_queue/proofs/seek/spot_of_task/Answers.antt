@@ -1,4 +1,5 @@
 -- `task_queue::seek::spot_of_task` meets its contract.
+use lib.Dec.{eqb}
 use mathlib.Core.Path.{refl, ap, ◌∙◌}
 use native.Mathlib.Omega.{arith}
 use Rattle.board.specs.declared.records.Task.{Task}
@@ -25,23 +26,23 @@ loop-left-preserved c =
     passed (task-kind a.z) c.loop-left.invariant _ c.in-Task.is _ (next_task (board_of a.z a.l.now) c.in-Task.k.0)
     c.loop-left-test.true
     (not_it c.number.ensures c.number-in-loop-left.ensures c.if-number.false)
-    (c.next-cur.ensures ∙ ap (λ (t : Task). task_meant a.z t.link {-?-}) c.task_at-t.ensures) refl
+    (c.next-cur.ensures ∙ ap (λ (t : Task). task_meant a.z t.link) c.task_at-t.ensures) refl
 
 pub returns-after-loop-left : goal.returns-after-loop-left
 returns-after-loop-left c =
     let a = c.args in
-    task_spot_lem a.z a.l.now _ _ _ _ c.first_task-cur.ensures
+    task_spot_lem a.z a.l.now (λ y. eqb y a.x.0) _ _ _ c.first_task-cur.ensures
     (spent c.loop-left.invariant c.loop-left-test.false)
 
 pub returns-in_default : goal.returns-in_default
 returns-in_default c =
     let a = c.args in
-    task_spot_lem a.z a.l.now _ _ _ _ c.first_task-cur.ensures
+    task_spot_lem a.z a.l.now (λ y. eqb y a.x.0) _ _ _ c.first_task-cur.ensures
     (ended c.loop-left.invariant (ap number_of_task c.in_default.is))
 
 pub returns-then-number : goal.returns-then-number
 returns-then-number c =
     let a = c.args in
-    task_spot_lem a.z a.l.now _ _ _ _ c.first_task-cur.ensures
+    task_spot_lem a.z a.l.now (λ y. eqb y a.x.0) _ _ _ c.first_task-cur.ensures
     (stopped (task-kind a.z) c.loop-left.invariant _ c.in-Task.is
     (is_it c.number.ensures c.number-in-loop-left.ensures c.if-number.true))
