@@ -120,7 +120,7 @@ module _ (z : Size) (l : List ℕ) (e : length l ≡ total z) (fuel : z.tasks �
       goes_in : queue_with z (with_message b m u) m r ≡ insert goes m (queue z b r)
       goes_in =
           let d : Board = with_message b m u in
-          let walks = chain-walk (next_message d) z.messages (task b r).mptr (queue z b r) (chain_with u) (walk-length _ _ _) in
+          let walks = chain-walk (next_message d) z.messages (task b r).mptr (queue z b r) (chain_with u) (walk-length (next_message b) _ (task b r).mptr) in
           (λ i. insert (λ y. goes_before (fifo (reads i).prio) (number (reads i).prio) (message_number d y)) m (walks.0 i))
           ∙ insert_stays _ goes m (queue z b r)
           (λ y i. ap (λ (t : Message). goes_before (fifo u.prio) (number u.prio) (number t.prio)) (message_other b m y u (other y i)))

@@ -46,7 +46,7 @@ out_of_order-requires c =
 
 pub put_task-requires : goal.put_task-requires
 put_task-requires c =
-    omega (arith, c.requires.0, c.l-1.given {-?-})
+    omega (arith, c.requires.0)
 
 pub returns : goal.returns
 returns c =

@@ -34,4 +34,4 @@ returns c =
     starts a.z a.l.now a.s.now a.m.0 a.delay c.message_at-u.ensures
     c.present_task-back.ensures c.in-Task.is c.number.ensures c.if-number-eq127.false c.if-delay-eq0.false
     c.lowest_entry-i.ensures c.if-i-eq0.false c.put_place.ensures c.now_at.ensures
-    c.wrapping_add_u16-at.ensures c.number-2.ensures c.put_entry.ensures
+    c.wrapping_add_u16-at.ensures.value c.number-2.ensures c.put_entry.ensures

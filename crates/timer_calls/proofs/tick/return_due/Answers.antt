@@ -7,7 +7,7 @@ pub loop-i-init : goal.loop-i-init
 loop-i-init c = (
   refl,
   going_begins c.args.z c.args.at c.args.l.now c.args.s.now
-      (record { long = c.requires.1; bytes = λ j. (c.slice_known-2-1.given {-?-} j).fits }),
+      (record { long = c.requires.1; bytes = λ j. (c.type_inv.s j).fits }),
 )
 
 pub overflow_add-i : goal.overflow_add-i
@@ -29,10 +29,10 @@ loop-i-smaller-then-is_due c = omega arith
 pub loop-i-preserved-then-is_due : goal.loop-i-preserved-then-is_due
 loop-i-preserved-then-is_due c =
     let a = c.args in (
-      c.give_back.auto.1.0 ∙ c.loop-i.invariant.0,
+      c.give_back.auto.l ∙ c.loop-i.invariant.0,
       going_back a.z a.at a.l.now a.s.now c.loop-i.l c.loop-i.s c.loop-i.i c.loop-i.invariant.1
           (omega arith) c.entry_at-e.ensures c.is_due.ensures c.if-is_due.true
-          c.give_back.ensures c.none.ensures c.put_entry.ensures (λ j. (c.slice_known-then-is_due-2-1.given {-?-} j).fits),
+          c.give_back.ensures c.none.ensures c.put_entry.ensures (λ j. (c.type_inv.s j).fits),
     )
 
 pub loop-i-smaller : goal.loop-i-smaller
@@ -45,12 +45,6 @@ loop-i-preserved c =
       going_on a.z a.at a.l.now a.s.now c.loop-i.l c.loop-i.s c.loop-i.i c.loop-i.invariant.1
           (omega arith) c.entry_at-e.ensures c.is_due.ensures c.if-is_due.false,
     )
-
-same_length : tie.Need-same-length invariant-loop decreases-loop
-same_length c = c.before.loop.invariant.0
-
-same-length-2 : tie.Need-same-length-2 invariant-loop decreases-loop
-same-length-2 c = let t = c.before in t.loop.invariant.1.sound.long ∙ sym t.before.before.before.requires.1
 
 pub returns : goal.returns
 returns c =
