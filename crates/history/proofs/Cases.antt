@@ -53,6 +53,7 @@ alone next end (x ∷ []) r c = second ((r.same (placed 2 11 2)).1 (inr (inl ref
   where
     second : In (placed 2 11 2) (x ∷ []) → ⊥
     second (inl e) = let i : 2 ≡ x.id = ap (λ (y : Entry). y.id) e in absurd (omega arith)
+    second (inr i) = elim i [ ]
 alone next end (x ∷ y ∷ q) r (e, n, (f, o, c)) = o (sym f ∙ ap next (sym e) ∙ end)
 
 case_only_the_first_linked : Agrees tiny only_first machine → ⊥

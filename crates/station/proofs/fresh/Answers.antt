@@ -31,12 +31,6 @@ loop-i-preserved c =
       zeros-more s.l s.i (omega (arith, s.invariant)) s.invariant.2,
     )
 
-same-length-2 : tie.Need-same-length-2 invariant-loop decreases-loop
-same-length-2 c =
-    let s = c.before in
-    s.loop.invariant.1 ∙ sym
-    (sized-long s.before.before.before.before.before.args.l.now s.before.before.sized.ensures s.before.if1.false)
-
 pub returns : goal.returns
 returns c =
     fresh-accepted c.args.l.now c.sized.ensures

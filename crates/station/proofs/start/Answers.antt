@@ -16,5 +16,5 @@ pub returns-in-Runs : goal.returns-in-Runs
 returns-in-Runs c =
     let a = c.args in
     start-made a.l.now a.s.now c.both_pass-passed.ensures c.in-Runs.is
-    (λ i. (c.slice_known-1.given {-?-} i).fits) (λ i. (c.slice_known-2-1.given {-?-} i).fits) a.m a.delay
-    c.make_start.ensures (λ i. (c.slice_known-in-Runs-1.given {-?-} i).fits)
+    (λ i. (c.slice_known-1.given i).fits) (λ i. (c.slice_known-2-1.given i).fits) a.m a.delay
+    c.make_start.ensures (λ i. (c.slice_known-in-Runs-1.given i).fits)

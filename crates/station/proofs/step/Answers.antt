@@ -26,6 +26,6 @@ pub returns-in-Passes : goal.returns-in-Passes
 returns-in-Passes c =
     step-made c.args.l.now c.args.call c.sized.ensures c.if-not-sized.false-raw
     c.checked_small-checked.ensures c.in-Passes.is
-    (λ i. (c.slice_known-1.given {-?-} i).fits)
-    (fitted c.args.call c.well_formed.1.0) (λ i. (c.slice_known-in-Passes-1.given {-?-} i).fits)
+    (λ i. (c.slice_known-1.given i).fits)
+    (fitted c.args.call c.well_formed.1.0) (λ i. (c.slice_known-in-Passes-1.given i).fits)
     c.make_call.ensures
