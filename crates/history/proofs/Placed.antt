@@ -14,7 +14,6 @@ use Rattle.board.specs.Numbers.{task_no, Numbered}
 use Rattle.board.specs.Status.{WAIT, MHBS}
 use Rattle.board.specs.Board.{Board, task, message, place}
 use Rattle.board.proofs.Numbered.{length-put}
-use Rattle.paper.specs.Changes.{sets}
 use Rattle.paper.specs.Effects.{place_at, own_prio, addressed, send, waits}
 use Rattle.kept.specs.Settled.{Settled}
 use Rattle.kept.specs.Touched.{IntoQueue, queues_after}

@@ -21,7 +21,7 @@ use Rattle.board.specs.Status.{WAIT, MHBS, has}
 use Rattle.board.specs.Places.{place_byte, is_free}
 use Rattle.board.specs.Board.{Board, task, place}
 use Rattle.paper.specs.Rules.{next_message, queue}
-use Rattle.paper.specs.Changes.{sets, clears, with_queue, hold, take_first}
+use Rattle.paper.specs.Changes.{with_queue, hold, take_first}
 use Rattle.paper.specs.Effects.{cancel_message}
 use Rattle.linked.proofs.Running.{placed_numbered}
 use Rattle.kept.specs.Settled.{Settled}

@@ -29,7 +29,7 @@ use Rattle.board.specs.Board.{Board, task, message, place, with_task}
 use Rattle.board.proofs.Numbered.{length-put}
 use Rattle.board.proofs.Pieces.{neither}
 use Rattle.paper.specs.declared.call.Call.TheVariants.{Install}
-use Rattle.paper.specs.Rules.{is_there, present, next_task, next_message, order, task_number, message_number, good_head}
+use Rattle.paper.specs.Rules.{is_there, present, next_task, next_message, task_number, message_number, good_head}
 use Rattle.paper.specs.Changes.{link_task, with_order}
 use Rattle.paper.specs.Effects.{install}
 use Rattle.paper.specs.Refusals.{no9, own_row, Go, given}

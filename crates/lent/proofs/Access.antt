@@ -13,7 +13,6 @@ use lib.Dec.{T, ltb, ltb→lt}
 use lib.ListN.{get_or, set, length-map}
 use lib.Seq.{sets}
 use Rattle.board.specs.declared.numbers.Size.{Size}
-use Rattle.board.specs.declared.numbers.TaskMeant.TheVariants.{Task}
 use Rattle.board.specs.declared.status.Status.{Status}
 use Rattle.board.specs.declared.records.Task as tasks
 use Rattle.board.specs.declared.records.Message.{Message}

@@ -16,12 +16,12 @@ use Rattle.board.specs.declared.numbers.MessageMeant.TheVariants.{Message, NoMes
 use Rattle.board.specs.Numbers.{task_no, msg_no, task_meant, message_meant}
 use Rattle.board.specs.Board.{Board, board_of}
 use Rattle.paper.specs.declared.answer.Rule.TheVariants.{R2, R3, R4, R5, R6}
-use Rattle.paper.specs.Rules.{present, first_ready, rule2_at, rule3, rule5_at, rule6_at}
+use Rattle.paper.specs.Rules.{first_ready, rule2_at, rule3, rule5_at, rule6_at}
 use Rattle.order_rules.specs.declared.tasks.Order.{Order}
 use Rattle.order_rules.specs.declared.tasks.Order.TheVariants as order
 use Rattle.order_rules.specs.Order.{order_from, listed_by}
 use Rattle.order_rules.proofs.OrderTurns.{listed, order-counted}
-use Rattle.queue_rules.specs.Walks.{queued, walked, saw, breaking}
+use Rattle.queue_rules.specs.Walks.{walked, saw, breaking}
 use Rattle.queue_rules.proofs.Lists.{rule5-counted}
 use Rattle.queue_rules.proofs.Breaking.{breaking_none, breaking-task, breaking-nobody, breaking-message, breaking-nothing}
 use Rattle.rules.specs.declared.records.Tasks.{Tasks}

@@ -1,6 +1,5 @@
 -- `block_calls::lowest_free` meets its contract.
 use mathlib.Core.Path.{refl, sym, ◌∙◌}
-use Prim.Native.Nat.{◌-◌}
 use native.Mathlib.Omega.{arith}
 use Rattle.four_places.proofs.Groups.{four_within}
 use Rattle.block_calls.proofs.Search.{behind_four, free_none, free_here, free_above}

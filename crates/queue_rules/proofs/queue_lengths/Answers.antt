@@ -1,6 +1,5 @@
 -- `queue_rules::queue_lengths` meets its contract.
 use mathlib.Core.Path.{◌≡◌, refl, sym, ap, ◌∙◌}
-use Prim.Native.Nat.{◌-◌}
 use native.Mathlib.Omega.{arith}
 use lib.ListN.{length-set}
 use Rattle.board.specs.Board.{board_of}

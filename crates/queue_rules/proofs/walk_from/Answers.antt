@@ -1,6 +1,5 @@
 -- `queue_rules::walk_from` meets its contract.
 use mathlib.Core.Path.{◌≡◌, ap}
-use mathlib.Core.Bool.{false}
 use Prim.Native.Nat.{ℕ, ◌-◌}
 use native.Mathlib.Omega.{arith}
 use Rattle.board.specs.Board.{board_of}

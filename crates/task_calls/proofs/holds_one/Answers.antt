@@ -1,6 +1,5 @@
 -- `task_calls::holds_one` meets its contract.
 use mathlib.Core.Path.{refl}
-use Prim.Native.Nat.{◌-◌}
 use native.Mathlib.Omega.{arith}
 use Rattle.task_calls.proofs.Holding.{holds_none, holds_here, holds_above_lem}
 use Rattle.task_calls.proofs.holds_one.Goals as goal

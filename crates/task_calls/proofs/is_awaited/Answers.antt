@@ -1,7 +1,5 @@
 -- `task_calls::is_awaited` meets its contract.
 use mathlib.Core.Path.{refl}
-use mathlib.Core.Bool.{true}
-use Prim.Native.Nat.{◌-◌}
 use native.Mathlib.Omega.{arith}
 use Rattle.task_calls.proofs.Awaiting.{awaited_none, awaited_off, awaited_here, awaited_above}
 use Rattle.task_calls.proofs.is_awaited.Goals as goal

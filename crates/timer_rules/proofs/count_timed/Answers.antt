@@ -1,6 +1,5 @@
 -- `timer_rules::count_timed` meets its contract.
 use mathlib.Core.Path.{◌≡◌, refl, sym, ap, ◌∙◌}
-use Prim.Native.Nat.{◌-◌}
 use native.Mathlib.Omega.{arith}
 use Rattle.board.specs.Board.{board_of, place}
 use Rattle.board.specs.Places.{is_on_timer}

@@ -1,7 +1,5 @@
 -- `timer_rules::named_before` meets its contract.
 use mathlib.Core.Path.{refl}
-use mathlib.Core.Bool.{true}
-use Prim.Native.Nat.{◌-◌}
 use native.Mathlib.Omega.{arith}
 use Rattle.timer.specs.Timer.{timer_of}
 use Rattle.timer_rules.proofs.BufferTurns.{named_here, named-later, named_none}

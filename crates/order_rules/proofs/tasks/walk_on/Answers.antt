@@ -1,7 +1,5 @@
 -- `order_rules::tasks::walk_on` meets its contract.
 use mathlib.Core.Path.{refl}
-use mathlib.Core.Bool.{false}
-use Prim.Native.Nat.{◌-◌}
 use native.Mathlib.Omega.{arith}
 use Rattle.order_rules.proofs.OrderTurns.{order_ends, order_strays, order_goes_on, order_gives_up}
 use Rattle.order_rules.proofs.tasks.walk_on.Goals as goal

@@ -5,7 +5,6 @@ use Rattle.board.specs.declared.records.Task.{Task}
 use Rattle.board.specs.Numbers.{task_meant}
 use Rattle.board.specs.Status.{is_ready}
 use Rattle.board.specs.Board.{board_of}
-use Rattle.paper.specs.Rules.{ready}
 use Rattle.order_rules.proofs.OrderTurns.{walk-meant, meant_again, first_at_end, first_no_link, first_here, first_behind_it}
 use Rattle.order_rules.proofs.who.first_ready.Goals as goal
 

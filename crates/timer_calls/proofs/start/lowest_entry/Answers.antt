@@ -1,5 +1,5 @@
 -- `timer_calls::start::lowest_entry` meets its contract.
-use Rattle.std.proofs.Common.{◌-◌, refl, arith}
+use Rattle.std.proofs.Common.{refl, arith}
 use Rattle.timer_calls.proofs.Starting.{entry_free, entry-used, all_used}
 use Rattle.timer_calls.proofs.start.lowest_entry.Goals as goal
 

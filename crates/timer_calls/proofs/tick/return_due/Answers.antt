@@ -1,5 +1,5 @@
 -- `timer_calls::tick::return_due` meets its contract.
-use Rattle.std.proofs.Common.{◌-◌, sym, refl, ◌∙◌, arith}
+use Rattle.std.proofs.Common.{refl, ◌∙◌, arith}
 use Rattle.timer_calls.proofs.Returning.{going_begins, going_back, going_on, going_ends}
 use Rattle.timer_calls.proofs.tick.return_due.Goals as goal
 
