@@ -1,6 +1,8 @@
 // PROMISE. The station's board for its callers: making a fresh board, checking one, converting a saved one, the nineteen calls, and start and
 // tick with a timer buffer, on lent bytes of any length and content. Read for the contracts: each says the answer and every byte afterwards
 // by one definition (paper, Outcomes and Conversion; timing, Timing).
+#![tactic(auto)]
+
 mod both_pass;
 pub mod exports;
 

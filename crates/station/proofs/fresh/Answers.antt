@@ -1,6 +1,5 @@
 -- `station::fresh` meets its contract.
-use mathlib.Core.Path.{sym, ◌∙◌}
-use Prim.Native.Nat.{◌-◌}
+use mathlib.Core.Path.{◌∙◌}
 use native.Mathlib.Omega.{arith}
 use lib.ListN.{length-set}
 use Rattle.station.proofs.Answers.{sized-long, fresh-refused, fresh-accepted, zeros-more}
