@@ -2,4 +2,3 @@ pub mod Answers
 pub mod Stepping
 pub mod Timing
 pub mod Fitted
-pub mod Told

@@ -4,7 +4,6 @@
 #![tactic(auto)]
 
 mod both_pass;
-pub mod exports;
 
 ghost use Rattle.std.specs.Prelude.{◌≡◌, length, eqb, ◌≤◌};
 ghost use Rattle.board.specs.Numbers.{small};

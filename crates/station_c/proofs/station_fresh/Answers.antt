@@ -1,9 +1,9 @@
--- `station::exports::station_fresh` meets its contract.
+-- `station_c::station_fresh` meets its contract.
 use mathlib.Core.Path.{ap, ◌∙◌}
 use Rattle.paper.specs.declared.answer.Answer.{Answer}
 use Rattle.paper.specs.Answers.{handed}
 use Rattle.for_c.specs.Packed.{packed}
-use Rattle.station.proofs.exports.station_fresh.Goals as goal
+use Rattle.station_c.proofs.station_fresh.Goals as goal
 
 pub returns : goal.returns
 returns c =

@@ -1,6 +1,6 @@
--- `station::exports::station_call` meets its contract.
-use Rattle.station.proofs.Told.{no_call_told, made_told}
-use Rattle.station.proofs.exports.station_call.Goals as goal
+-- `station_c::station_call` meets its contract.
+use Rattle.station_c.proofs.Told.{no_call_told, made_told}
+use Rattle.station_c.proofs.station_call.Goals as goal
 
 pub returns-in_default : goal.returns-in_default
 returns-in_default c =

@@ -1,11 +1,11 @@
--- `station::exports::station_start` meets its contract.
+-- `station_c::station_tick` meets its contract.
 use mathlib.Core.Path.{ap, ◌∙◌}
 use Rattle.paper.specs.declared.answer.Answer.{Answer}
 use Rattle.paper.specs.Answers.{handed}
 use Rattle.for_c.specs.Packed.{packed}
-use Rattle.station.proofs.exports.station_start.Goals as goal
+use Rattle.station_c.proofs.station_tick.Goals as goal
 
 pub returns : goal.returns
 returns c =
-    let s = c.start.ensures in
+    let s = c.tick.ensures in
     record { word = c.pack.ensures ∙ ap (λ (a : Answer). packed (handed a)) s.answers; board = s.board; timer = s.timer }

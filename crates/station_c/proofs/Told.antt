@@ -10,7 +10,7 @@ use Rattle.paper.specs.Outcomes.{Ends, effect}
 use Rattle.for_c.specs.declared.asked.Asked.{Asked}
 use Rattle.for_c.specs.declared.asked.Asked.TheVariants.{Made, NoCall}
 use Rattle.for_c.specs.Packed.{packed}
-use Rattle.station.specs.Called.{word_for, left_for}
+use Rattle.station_c.specs.Called.{word_for, left_for}
 
 -- x is the call that was asked for
 module _ (l : List ℕ) {x asked : Asked} (ex : x ≡ asked) where
