@@ -2,7 +2,7 @@
  * of the task queue, and byte 1 the running task, 0 if none. Beside it, for messages that come back later, the station timer: 50
  * bytes more. For C11 and C++.
  *
- * Link with target/staticlib/libstation.a, which `rt staticlib station` writes; of the C library it needs memset alone. No
+ * Link with target/staticlib/libstation.a, which `tests/libraries` writes; of the C library it needs memset alone. No
  * function keeps anything between calls, allocates, or touches a byte outside the lent ones. A pointer must have as many bytes
  * behind it as its length says; with length 0 it may be any, NULL too. The board and the timer of one call do not overlap. All
  * else is safe to hand over, any bytes and any arguments: what cannot be done is refused with a number and changes nothing. One

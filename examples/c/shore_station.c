@@ -1,6 +1,6 @@
 /* A shore station in small: two samplers, a logger, and a gauge that interrupts.
  *
- * On x86-64, after `rt staticlib station`:
+ * On x86-64, after `tests/libraries`:
  *     cc -Iinclude examples/c/shore_station.c target/staticlib/libstation.a -o shore_station && ./shore_station
  *
  * The board says who runs and who has which message; the program does what each task does. A task's turn ends when it waits, or

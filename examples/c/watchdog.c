@@ -1,6 +1,6 @@
 /* A watchdog on two gauges, with the station timer: one of them falls silent, and that raises an alarm.
  *
- * On x86-64, after `rt staticlib station`:
+ * On x86-64, after `tests/libraries`:
  *     cc -Iinclude examples/c/watchdog.c target/staticlib/libstation.a -o watchdog && ./watchdog
  *
  * The watchdog has a message for each gauge and puts it on a timer. Nothing stops a timer, so a report does not either: when the

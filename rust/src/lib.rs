@@ -9,9 +9,8 @@
 //! board that was saved when byte 1 was always zero goes through [`Board::convert`] first. Names in capitals are the fields of
 //! the MITE-80 manual, 3.2 and 3.3.
 //!
-//! To use it, name this folder as a path dependency and build the library first: `rt staticlib station` at the top of the
-//! repository writes it for x86-64, and `tests/libraries` compiles it for another processor. If it lies elsewhere,
-//! `STATION_LIB_DIR` says in which folder.
+//! To use it, name this folder as a path dependency and build the library first: `tests/libraries` at the top of the
+//! repository writes it, for x86-64. If it lies elsewhere, `STATION_LIB_DIR` says in which folder.
 //!
 //! ```
 //! use station::{Board, Prio, Refusal, Rule, Status, TaskNo};
