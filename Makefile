@@ -1,5 +1,5 @@
 # make         prove every crate (what has not changed since it was proved is not proved again), build the programs, show a sample board
-# make test    the gate: layout, every crate and must-fail edit from nothing, and our own tests; ends in 'N passed, M failed'
+# make test    the gate: every crate and must-fail edit by `rt ci`, and our own tests; ends in 'N passed, M failed'
 # make soak    the compiled code against the model in plain Rust on ever new cases: SECONDS=60 for so long, else until it is stopped
 # make bench   docs/BENCHMARKS.md anew, on standard output; BEFORE=LIBRARY.so times another library beside it
 # make clean   remove all that was built
@@ -30,7 +30,7 @@ bench:
 	@bench/run $(if $(BEFORE),--before '$(BEFORE)')
 
 clean:
-	@rm -rf target bench/target model/target rust/target 2>/dev/null || { echo '$(CURDIR)/target cannot be removed' >&2; exit 1; }
+	@rm -rf target crates/*/out bench/target model/target rust/target 2>/dev/null || { echo '$(CURDIR)/target cannot be removed' >&2; exit 1; }
 
 help:
 	@sed -n 's/^# //p' Makefile
