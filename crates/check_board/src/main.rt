@@ -1,22 +1,27 @@
 // PROGRAM. A board from standard input, and what the check says of it in one line: it passes and who runs, or it is refused and why.
 #![tactic(auto)]
 
-use libc::STDIN_FILENO;
+use std::io;
+use std::io::{LineWriter, Write};
 use telling::finding::{Finding, judged, tell_running};
+use telling::input::read_full;
 use telling::print::text;
 
-fn tell(l: &[u8]) {
-    let found = judged(l);
+fn tell<W: Write>(out: &mut W, l: &[u8]) -> io::Result<()> {
+    let found = judged(out, l)?;
     let Finding::Passes(k) = found else {
-        return;
+        return Ok(());
     };
-    text(b"passes the check; ");
-    tell_running(k);
-    text(b"\n");
+    text(out, b"passes the check; ")?;
+    tell_running(out, k)?;
+    text(out, b"\n")?;
+    Ok(())
 }
 
-fn main() {
-    let mut space = io::large_buffer();
-    let n = io::read_full(STDIN_FILENO, &mut space);
-    tell(&space[..n]);
+fn main(rt: HostRuntime) -> io::Result<()> {
+    let mut out = LineWriter::new(rt.alloc(), rt.stdout())?;
+    let mut space = [0u8; 65536];
+    let n = read_full(&mut rt.stdin(), &mut space)?;
+    tell(&mut out, &space[..n])?;
+    out.flush()
 }

@@ -2,19 +2,23 @@
 // refusal in one line.
 #![tactic(auto)]
 
-use libc::{STDIN_FILENO, STDOUT_FILENO};
+use std::io;
+use std::io::{LineWriter, Write};
 use telling::finding::{Finding, converted};
+use telling::input::read_full;
 
-fn convert(l: &mut [u8]) {
-    let found = converted(l);
+fn convert<W: Write>(out: &mut W, l: &mut [u8]) -> io::Result<()> {
+    let found = converted(out, l)?;
     let Finding::Passes(_) = found else {
-        return;
+        return Ok(());
     };
-    io::write_all(STDOUT_FILENO, l);
+    out.write_all(l)
 }
 
-fn main() {
-    let mut space = io::large_buffer();
-    let n = io::read_full(STDIN_FILENO, &mut space);
-    convert(&mut space[..n]);
+fn main(rt: HostRuntime) -> io::Result<()> {
+    let mut out = LineWriter::new(rt.alloc(), rt.stdout())?;
+    let mut space = [0u8; 65536];
+    let n = read_full(&mut rt.stdin(), &mut space)?;
+    convert(&mut out, &mut space[..n])?;
+    out.flush()
 }

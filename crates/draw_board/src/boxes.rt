@@ -9,99 +9,111 @@ use board::priority::{fifo, number};
 use board::records::Message;
 use lent::by_word::{message_meant, place_meant};
 use lent::bytes::message_at;
+use std::io;
+use std::io::Write;
 use telling::print::{decimal, text};
 
 // What a person sees who points at the box.
-pub(crate) fn draw_details(m: u16, u: Message) {
-    text(b"<title>message ");
-    decimal(m as u64);
-    text(b", priority ");
-    decimal(number(u.prio) as u64);
+pub(crate) fn draw_details<W: Write>(out: &mut W, m: u16, u: Message) -> io::Result<()> {
+    text(out, b"<title>message ")?;
+    decimal(out, m as u64)?;
+    text(out, b", priority ")?;
+    decimal(out, number(u.prio) as u64)?;
     if fifo(u.prio) {
-        text(b", FIFO");
+        text(out, b", FIFO")?;
     } else {
-        text(b", LIFO");
+        text(out, b", LIFO")?;
     }
     if u.sptr != 0 {
-        text(b", from task ");
-        decimal(u.sptr as u64);
+        text(out, b", from task ")?;
+        decimal(out, u.sptr as u64)?;
     }
     if u.rptr != 0 {
-        text(b", to task ");
-        decimal(u.rptr as u64);
+        text(out, b", to task ")?;
+        decimal(out, u.rptr as u64)?;
     }
-    text(b"</title>");
+    text(out, b"</title>")?;
+    Ok(())
 }
 
 // The box of message n of a list whose first row is at y.
-fn start_box(class: &[u8], n: u32, y: u32) {
-    text(b"<g class='");
-    text(class);
-    text(b"' transform='translate(");
-    decimal(380 + 88 * ((n % BESIDE) as u64));
-    text(b",");
-    decimal(y as u64 + 10 + (ROW as u64) * ((n / BESIDE) as u64));
-    text(b")'>");
+fn start_box<W: Write>(out: &mut W, class: &[u8], n: u32, y: u32) -> io::Result<()> {
+    text(out, b"<g class='")?;
+    text(out, class)?;
+    text(out, b"' transform='translate(")?;
+    decimal(out, 380 + 88 * ((n % BESIDE) as u64))?;
+    text(out, b",")?;
+    decimal(out, y as u64 + 10 + (ROW as u64) * ((n / BESIDE) as u64))?;
+    text(out, b")'>")?;
+    Ok(())
 }
 
 // LIFO has a broken line.
-fn start_held(u: Message, n: u32, y: u32) {
+fn start_held<W: Write>(out: &mut W, u: Message, n: u32, y: u32) -> io::Result<()> {
     if fifo(u.prio) {
-        start_box(b"held", n, y);
+        start_box(out, b"held", n, y)?;
     } else {
-        start_box(b"held lifo", n, y);
+        start_box(out, b"held lifo", n, y)?;
     }
+    Ok(())
 }
 
-fn draw_box(m: u16, u: Message) {
-    draw_details(m, u);
-    text(b"<rect width='70' height='30' rx='5'/><text class='no' x='8' y='20'>");
-    decimal(m as u64);
-    text(b"</text><text class='pr' x='63' y='20'>p");
-    decimal(number(u.prio) as u64);
-    text(b"</text></g>\n");
+fn draw_box<W: Write>(out: &mut W, m: u16, u: Message) -> io::Result<()> {
+    draw_details(out, m, u)?;
+    text(
+        out,
+        b"<rect width='70' height='30' rx='5'/><text class='no' x='8' y='20'>",
+    )?;
+    decimal(out, m as u64)?;
+    text(out, b"</text><text class='pr' x='63' y='20'>p")?;
+    decimal(out, number(u.prio) as u64)?;
+    text(out, b"</text></g>\n")?;
+    Ok(())
 }
 
 // From the task's box to the first, from the end of a row down to the next row, and from a box to the one beside it.
-fn draw_arrow(n: u32) {
+fn draw_arrow<W: Write>(out: &mut W, n: u32) -> io::Result<()> {
     if n == 0 {
-        text(b"<path d='M-40,15 h34'/>");
-        return;
+        text(out, b"<path d='M-40,15 h34'/>")?;
+        return Ok(());
     }
     if n % BESIDE == 0 {
-        text(b"<path d='M774,-29 h12 v22 H-22 v22 h16'/>");
-        return;
+        text(out, b"<path d='M774,-29 h12 v22 H-22 v22 h16'/>")?;
+        return Ok(());
     }
-    text(b"<path d='M-18,15 h12'/>");
+    text(out, b"<path d='M-18,15 h12'/>")?;
+    Ok(())
 }
 
 // The queue in its order. It has no more than the 128 blocks of the board.
-pub(crate) fn draw_queue(l: &[u8], first: MessageMeant)
+pub(crate) fn draw_queue<W: Write>(out: &mut W, l: &[u8], first: MessageMeant) -> io::Result<()>
     requires { total small ≤ length l.now }
 {
     let mut next = first;
     let mut n: u32 = 0;
     while n < 128 {
         let MessageMeant::Message(m) = next else {
-            return;
+            return Ok(());
         };
         let u = message_at(Size::SMALL, l, m);
-        start_box(b"queued", n, 0);
-        draw_arrow(n);
-        draw_box(m.number(), u);
+        start_box(out, b"queued", n, 0)?;
+        draw_arrow(out, n)?;
+        draw_box(out, m.number(), u)?;
         next = u.next(Size::SMALL);
         n += 1;
     }
+    Ok(())
 }
 
-fn draw_label(y: u32) {
-    text(b"<text class='label' x='370' y='");
-    decimal(y as u64 + 30);
-    text(b"'>holds</text>\n");
+fn draw_label<W: Write>(out: &mut W, y: u32) -> io::Result<()> {
+    text(out, b"<text class='label' x='370' y='")?;
+    decimal(out, y as u64 + 30)?;
+    text(out, b"'>holds</text>\n")?;
+    Ok(())
 }
 
 // What the task holds, below so many rows of its queue.
-pub(crate) fn draw_held(l: &[u8], k: TaskNo, below: u32)
+pub(crate) fn draw_held<W: Write>(out: &mut W, l: &[u8], k: TaskNo, below: u32) -> io::Result<()>
     requires small_in_bounds { total small ≤ length l.now }
     requires below_bound { below ≤ 7300 }
 {
@@ -113,12 +125,13 @@ pub(crate) fn draw_held(l: &[u8], k: TaskNo, below: u32)
         let p = place_meant(Size::SMALL, l, m);
         if p.is_held_by(k) {
             if n == 0 {
-                draw_label(y);
+                draw_label(out, y)?;
             }
             let u = message_meant(Size::SMALL, l, m);
-            start_held(u, n, y);
-            draw_box(m, u);
+            start_held(out, u, n, y)?;
+            draw_box(out, m, u)?;
             n += 1;
         }
     }
+    Ok(())
 }

@@ -1,7 +1,8 @@
 // A call as run_cases takes it, a case: the length of the board as a word, the call of nine bytes (kind, three words, STAT,
 // PRIO), and the board before it.
-use libc::STDOUT_FILENO;
 use paper::call::Call;
+use std::io;
+use std::io::Write;
 
 // A call as its kind, words and bytes, zero where it takes none.
 #[derive(Clone, Copy)]
@@ -83,7 +84,7 @@ fn high(w: u16) -> u8 {
 }
 
 // The length, 1,476, is 05C4H.
-fn write(g: Arguments, board: &[u8]) {
+fn write<W: Write>(out: &mut W, g: Arguments, board: &[u8]) -> io::Result<()> {
     let head = [
         0xC4,
         0x05,
@@ -97,14 +98,14 @@ fn write(g: Arguments, board: &[u8]) {
         g.stat,
         g.prio,
     ];
-    io::write_all(STDOUT_FILENO, &head);
-    io::write_all(STDOUT_FILENO, board);
+    out.write_all(&head)?;
+    out.write_all(board)
 }
 
-pub(crate) fn write_fresh(board: &[u8]) {
-    write(with_words(FRESH, 0, 0), board);
+pub(crate) fn write_fresh<W: Write>(out: &mut W, board: &[u8]) -> io::Result<()> {
+    write(out, with_words(FRESH, 0, 0), board)
 }
 
-pub(crate) fn write_case(call: Call, board: &[u8]) {
-    write(arguments_of(call), board);
+pub(crate) fn write_case<W: Write>(out: &mut W, call: Call, board: &[u8]) -> io::Result<()> {
+    write(out, arguments_of(call), board)
 }

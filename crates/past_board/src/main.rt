@@ -17,13 +17,15 @@ ghost use Rattle.board.specs.Numbers.{small};
 ghost use Rattle.board.specs.Board.{total};
 
 use cases::write_fresh;
-use check::same;
-use libc::STDIN_FILENO;
 use made::{none_made, tell_end};
 use past::make_past;
 use roles::first_timed;
 use station::fresh;
+use std::env::Env;
+use std::io;
+use std::io::{LineWriter, Read, Write};
 use telling::finding::{Finding, judged};
+use telling::input::read_full;
 use telling::print::{decimal, text};
 
 // How the program is asked.
@@ -35,92 +37,103 @@ enum Way {
     Unknown,
 }
 
-fn tell_timed(m: u16) {
-    text(b"message ");
-    decimal(m as u64);
-    text(b" is on the timer: no history of the nineteen calls alone makes this board\n");
+fn tell_timed<W: Write>(out: &mut W, m: u16) -> io::Result<()> {
+    text(out, b"message ")?;
+    decimal(out, m as u64)?;
+    text(
+        out,
+        b" is on the timer: no history of the nineteen calls alone makes this board\n",
+    )?;
+    Ok(())
 }
 
 // The history of a board without messages on the timer, on which this task runs, 0 for none.
-fn tell_calls(l: &[u8], runs: u16, as_cases: bool)
+fn tell_calls<W: Write>(out: &mut W, l: &[u8], runs: u16, as_cases: bool) -> io::Result<()>
     requires { total small ≤ length l.now }
 {
     let mut d = [0u8; 1476];
     fresh(&mut d);
     if as_cases {
-        write_fresh(&d);
+        write_fresh(out, &d)?;
     }
-    let made = make_past(l, &mut d, none_made(as_cases), runs);
-    tell_end(made, same(l, &d));
+    let made = make_past(out, l, &mut d, none_made(as_cases), runs)?;
+    tell_end(out, made, l == d.as_slice())
 }
 
-fn tell_past(l: &[u8], as_cases: bool) {
-    let found = judged(l);
+fn tell_past<W: Write>(out: &mut W, l: &[u8], as_cases: bool) -> io::Result<()> {
+    let found = judged(out, l)?;
     let Finding::Passes(runs) = found else {
-        return;
+        return Ok(());
     };
     // what passes is whole: the readers want to see it
     if l.len() < 1476 {
-        return;
+        return Ok(());
     }
     let m = first_timed(l);
     if m != 0 {
-        tell_timed(m);
-        return;
+        return tell_timed(out, m);
     }
-    tell_calls(l, runs, as_cases);
+    tell_calls(out, l, runs, as_cases)
 }
 
-fn one_board(as_cases: bool) {
-    let mut space = io::large_buffer();
-    let n = io::read_full(STDIN_FILENO, &mut space);
-    tell_past(&space[..n], as_cases);
+fn one_board<R: Read, W: Write>(input: &mut R, out: &mut W, as_cases: bool) -> io::Result<()> {
+    let mut space = [0u8; 65536];
+    let n = read_full(input, &mut space)?;
+    tell_past(out, &space[..n], as_cases)
 }
 
 // The next of several boards; false where there is none.
-fn next_board() -> bool {
+fn next_board<R: Read, W: Write>(input: &mut R, out: &mut W) -> io::Result<bool> {
     let mut space = [0u8; 1476];
-    let n = io::read_full(STDIN_FILENO, &mut space);
+    let n = read_full(input, &mut space)?;
     if n == 0 {
-        return false;
+        return Ok(false);
     }
-    tell_past(&space[..n], false);
-    true
+    tell_past(out, &space[..n], false)?;
+    Ok(true)
 }
 
-fn each_board() {
+fn each_board<R: Read, W: Write>(input: &mut R, out: &mut W) -> io::Result<()> {
     let mut turns = u64::MAX;
     while turns > 0 {
-        if !next_board() {
-            return;
+        if !next_board(input, out)? {
+            return Ok(());
         }
         turns -= 1;
     }
+    Ok(())
 }
 
 fn way_of(word: &[u8]) -> Way {
     if word.len() == 0 {
         return Way::Words;
     }
-    if same(word, b"--cases") {
+    if word == b"--cases".as_slice() {
         return Way::Cases;
     }
-    if same(word, b"--each") {
+    if word == b"--each".as_slice() {
         return Way::Each;
     }
     Way::Unknown
 }
 
-fn main() {
-    let mut word = io::buffer();
-    let n = os::arg(1, &mut word);
-    let way = way_of(&word[..n]);
-    match way {
-        Way::Words => one_board(false),
-        Way::Cases => one_board(true),
-        Way::Each => each_board(),
-        Way::Unknown => {
-            text(b"error: the options are --cases and --each\n");
-        }
+// By its first argument. One that is longer than any option is none.
+fn way_asked(rt: &impl Env) -> Way {
+    let mut word = [0u8; 4096];
+    match rt.arg(1, &mut word) {
+        Ok(n) => way_of(&word[..n]),
+        Err(_) => Way::Words,
     }
+}
+
+fn main(rt: HostRuntime) -> io::Result<()> {
+    let mut out = LineWriter::new(rt.alloc(), rt.stdout())?;
+    let mut input = rt.stdin();
+    match way_asked(&rt) {
+        Way::Words => one_board(&mut input, &mut out, false)?,
+        Way::Cases => one_board(&mut input, &mut out, true)?,
+        Way::Each => each_board(&mut input, &mut out)?,
+        Way::Unknown => out.write_all(b"error: the options are --cases and --each\n")?,
+    }
+    out.flush()
 }

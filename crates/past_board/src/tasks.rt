@@ -12,12 +12,14 @@ use board::status::Status;
 use lent::by_word::task_meant;
 use lent::bytes::{first_task, task_at};
 use paper::call::Call;
+use std::io;
+use std::io::Write;
 
 // What a task is not installed with, and gets later.
 const LATER: u8 = Status::WAIT + Status::IWAT + Status::INTQ + Status::MHBS;
 
 // Task k is installed with the fields of t, and waits for an interrupt.
-fn install(d: &mut [u8], made: Made, k: u16, t: Task) -> Made {
+fn install<W: Write>(out: &mut W, d: &mut [u8], made: Made, k: u16, t: Task) -> io::Result<Made> {
     let s = t.stat;
     let fields = Call::Install {
         k: k,
@@ -26,12 +28,17 @@ fn install(d: &mut [u8], made: Made, k: u16, t: Task) -> Made {
         sptr: t.sptr,
         name: t.name,
     };
-    let made = make(d, made, fields);
-    make(d, made, Call::WaitForInterrupt)
+    let made = make(out, d, made, fields)?;
+    make(out, d, made, Call::WaitForInterrupt)
 }
 
 // The tasks in queue order. A board that passes has no more than 32.
-pub(crate) fn install_tasks(l: &[u8], d: &mut [u8], made: Made) -> Made
+pub(crate) fn install_tasks<W: Write>(
+    out: &mut W,
+    l: &[u8],
+    d: &mut [u8],
+    made: Made,
+) -> io::Result<Made>
     requires { total small ≤ length l.now }
 {
     let mut made = begin(made, Group::Tasks);
@@ -39,14 +46,14 @@ pub(crate) fn install_tasks(l: &[u8], d: &mut [u8], made: Made) -> Made
     let mut left: u16 = 32;
     while 0 < left {
         let TaskMeant::Task(k) = next else {
-            return made;
+            return Ok(made);
         };
         let t = task_at(Size::SMALL, l, k);
-        made = install(d, made, k.number(), t);
+        made = install(out, d, made, k.number(), t)?;
         next = t.next(Size::SMALL);
         left -= 1;
     }
-    made
+    Ok(made)
 }
 
 // A guest stands behind all other tasks: its priority number is the largest.
@@ -62,7 +69,12 @@ fn guest() -> Task {
 }
 
 // The guests, the last of them first.
-pub(crate) fn install_guests(l: &[u8], d: &mut [u8], made: Made) -> Made
+pub(crate) fn install_guests<W: Write>(
+    out: &mut W,
+    l: &[u8],
+    d: &mut [u8],
+    made: Made,
+) -> io::Result<Made>
     requires { total small ≤ length l.now }
 {
     let mut made = begin(made, Group::Guests);
@@ -70,98 +82,137 @@ pub(crate) fn install_guests(l: &[u8], d: &mut [u8], made: Made) -> Made
     while 1 < k {
         k -= 1;
         if is_guest(l, k) {
-            made = install(d, made, k, guest());
+            made = install(out, d, made, k, guest())?;
         }
     }
-    made
+    Ok(made)
 }
 
-fn post(d: &mut [u8], made: Made, k: u16) -> Made {
-    make(d, made, Call::PostInterrupt { k: k })
+fn post<W: Write>(out: &mut W, d: &mut [u8], made: Made, k: u16) -> io::Result<Made> {
+    make(out, d, made, Call::PostInterrupt { k: k })
 }
 
 // A guest is posted and cancelled.
-fn dismiss(l: &[u8], d: &mut [u8], made: Made, k: u16) -> Made
+fn dismiss<W: Write>(out: &mut W, l: &[u8], d: &mut [u8], made: Made, k: u16) -> io::Result<Made>
     requires { total small ≤ length l.now }
 {
     if is_guest(l, k) {
-        let made = post(d, made, k);
-        return make(d, made, Call::CancelTask { k: k });
+        let made = post(out, d, made, k)?;
+        return make(out, d, made, Call::CancelTask { k: k });
     }
-    made
+    Ok(made)
 }
 
 // Task k waits for a message. Where it is due one (MHBS), that is queued at it later.
-fn wait(d: &mut [u8], made: Made, k: u16, s: Status) -> Made {
+fn wait<W: Write>(out: &mut W, d: &mut [u8], made: Made, k: u16, s: Status) -> io::Result<Made> {
     if s.has(Status::WAIT + Status::MHBS) {
-        let made = post(d, made, k);
-        return make(d, made, Call::ReceiveAndWait);
+        let made = post(out, d, made, k)?;
+        return make(out, d, made, Call::ReceiveAndWait);
     }
-    made
+    Ok(made)
 }
 
 // Task k is ready and due no message. Who fills the queues is posted already.
-fn wake(d: &mut [u8], made: Made, k: u16, s: Status, filler: u16) -> Made {
+fn wake<W: Write>(
+    out: &mut W,
+    d: &mut [u8],
+    made: Made,
+    k: u16,
+    s: Status,
+    filler: u16,
+) -> io::Result<Made> {
     if k == filler {
-        return made;
+        return Ok(made);
     }
     if s.has(Status::MHBS) {
-        return made;
+        return Ok(made);
     }
     if s.ready() {
-        return post(d, made, k);
+        return post(out, d, made, k);
     }
-    made
+    Ok(made)
 }
 
-fn queue_interrupt(d: &mut [u8], made: Made, k: u16, s: Status) -> Made {
+fn queue_interrupt<W: Write>(
+    out: &mut W,
+    d: &mut [u8],
+    made: Made,
+    k: u16,
+    s: Status,
+) -> io::Result<Made> {
     if s.has(Status::INTQ) {
-        return post(d, made, k);
+        return post(out, d, made, k);
     }
-    made
+    Ok(made)
 }
 
 // What a group has of task k.
-fn of_task(l: &[u8], d: &mut [u8], made: Made, k: u16, filler: u16, group: Group) -> Made
+fn of_task<W: Write>(
+    out: &mut W,
+    l: &[u8],
+    d: &mut [u8],
+    made: Made,
+    k: u16,
+    filler: u16,
+    group: Group,
+) -> io::Result<Made>
     requires { total small ≤ length l.now }
 {
     let t = task_meant(Size::SMALL, l, k);
     let s = t.stat;
     match group {
-        Group::Gone => dismiss(l, d, made, k),
-        Group::Waiting => wait(d, made, k, s),
-        Group::Ready => wake(d, made, k, s, filler),
-        Group::Queues => fill_queue(l, d, made, k),
-        Group::Posted => queue_interrupt(d, made, k, s),
-        _ => made,
+        Group::Gone => dismiss(out, l, d, made, k),
+        Group::Waiting => wait(out, d, made, k, s),
+        Group::Ready => wake(out, d, made, k, s, filler),
+        Group::Queues => fill_queue(out, l, d, made, k),
+        Group::Posted => queue_interrupt(out, d, made, k, s),
+        _ => Ok(made),
     }
 }
 
 // A group that goes by the numbers of the tasks.
-pub(crate) fn each_task(l: &[u8], d: &mut [u8], made: Made, filler: u16, group: Group) -> Made
+pub(crate) fn each_task<W: Write>(
+    out: &mut W,
+    l: &[u8],
+    d: &mut [u8],
+    made: Made,
+    filler: u16,
+    group: Group,
+) -> io::Result<Made>
     requires { total small ≤ length l.now }
 {
     let mut made = begin(made, group);
     let mut k: u16 = 0;
     while k < 32 {
         k += 1;
-        made = of_task(l, d, made, k, filler, group);
+        made = of_task(out, l, d, made, k, filler, group)?;
     }
-    made
+    Ok(made)
 }
 
 // Who fills the queues runs.
-pub(crate) fn post_filler(d: &mut [u8], made: Made, filler: u16) -> Made {
+pub(crate) fn post_filler<W: Write>(
+    out: &mut W,
+    d: &mut [u8],
+    made: Made,
+    filler: u16,
+) -> io::Result<Made> {
     if filler == 0 {
-        return made;
+        return Ok(made);
     }
-    post(d, begin(made, Group::Runs), filler)
+    post(out, d, begin(made, Group::Runs), filler)
 }
 
 // Where no task runs on the board, it waits for an interrupt again.
-pub(crate) fn rest_filler(d: &mut [u8], made: Made, filler: u16, runs: u16) -> Made {
+pub(crate) fn rest_filler<W: Write>(
+    out: &mut W,
+    d: &mut [u8],
+    made: Made,
+    filler: u16,
+    runs: u16,
+) -> io::Result<Made> {
     if filler == runs {
-        return made;
+        return Ok(made);
     }
-    make(d, begin(made, Group::Rests), Call::WaitForInterrupt)
+    make(out, d, begin(made, Group::Rests), Call::WaitForInterrupt)
 }

@@ -8,75 +8,80 @@ use board::priority::{fifo, number};
 use board::records::Message;
 use lent::by_word::{message_meant, place_meant};
 use lent::bytes::message_at;
+use std::io;
+use std::io::Write;
 use telling::print::{decimal_in, pad, text};
 
 // Where message n of a list goes: the first behind the label, every third below it, the others beside the one before, which left some
 // columns empty.
-fn start(label: &[u8], n: u16, empty: u16) {
+fn start<W: Write>(out: &mut W, label: &[u8], n: u16, empty: u16) -> io::Result<()> {
     if n == 0 {
-        pad(0, 8);
-        text(label);
-        return;
+        pad(out, 0, 8)?;
+        text(out, label)?;
+        return Ok(());
     }
     if n % 3 == 0 {
-        text(b"\n");
-        pad(0, 13);
-        return;
+        text(out, b"\n")?;
+        pad(out, 0, 13)?;
+        return Ok(());
     }
-    pad(0, empty as usize + 3);
+    pad(out, 0, empty as usize + 3)?;
+    Ok(())
 }
 
-fn end(n: u16) {
+fn end<W: Write>(out: &mut W, n: u16) -> io::Result<()> {
     if 0 < n {
-        text(b"\n");
+        text(out, b"\n")?;
     }
+    Ok(())
 }
 
 // Who sent it and to whom, where there is one. Answers how many columns are left empty at the end.
-fn show_ends(from: u16, to: u16) -> u16 {
+fn show_ends<W: Write>(out: &mut W, from: u16, to: u16) -> io::Result<u16> {
     if from == 0 {
         if to == 0 {
-            return 14;
+            return Ok(14);
         }
-        pad(0, 8);
+        pad(out, 0, 8)?;
     } else {
-        text(b" from ");
-        decimal_in(from as u64, 2);
+        text(out, b" from ")?;
+        decimal_in(out, from as u64, 2)?;
     }
     if to == 0 {
-        return 6;
+        return Ok(6);
     }
-    text(b" to ");
-    decimal_in(to as u64, 2);
-    0
+    text(out, b" to ")?;
+    decimal_in(out, to as u64, 2)?;
+    Ok(0)
 }
 
-fn show_number(m: u16, prio: u8) {
-    decimal_in(m as u64, 4);
-    text(b" prio ");
-    decimal_in(number(prio) as u64, 3);
+fn show_number<W: Write>(out: &mut W, m: u16, prio: u8) -> io::Result<()> {
+    decimal_in(out, m as u64, 4)?;
+    text(out, b" prio ")?;
+    decimal_in(out, number(prio) as u64, 3)?;
+    Ok(())
 }
 
-fn show_held_one(m: u16, u: Message) -> u16 {
-    show_number(m, u.prio);
+fn show_held_one<W: Write>(out: &mut W, m: u16, u: Message) -> io::Result<u16> {
+    show_number(out, m, u.prio)?;
     if fifo(u.prio) {
-        text(b" FIFO");
+        text(out, b" FIFO")?;
     } else {
-        text(b" LIFO");
+        text(out, b" LIFO")?;
     }
-    show_ends(u.sptr, u.rptr)
+    show_ends(out, u.sptr, u.rptr)
 }
 
 // RPTR is shown where it is not the task whose queue this is: the message was forwarded or returned.
-fn show_queued_one(m: u16, u: Message, k: TaskNo) -> u16 {
-    show_number(m, u.prio);
+fn show_queued_one<W: Write>(out: &mut W, m: u16, u: Message, k: TaskNo) -> io::Result<u16> {
+    show_number(out, m, u.prio)?;
     if u.rptr == k.number() {
-        return show_ends(u.sptr, 0);
+        return show_ends(out, u.sptr, 0);
     }
-    show_ends(u.sptr, u.rptr)
+    show_ends(out, u.sptr, u.rptr)
 }
 
-pub(crate) fn show_held(l: &[u8], k: TaskNo)
+pub(crate) fn show_held<W: Write>(out: &mut W, l: &[u8], k: TaskNo) -> io::Result<()>
     requires { total small ≤ length l.now }
 {
     let mut m: u16 = 0;
@@ -86,16 +91,21 @@ pub(crate) fn show_held(l: &[u8], k: TaskNo)
         m += 1;
         let p = place_meant(Size::SMALL, l, m);
         if p.is_held_by(k) {
-            start(b"holds", n, empty);
-            empty = show_held_one(m, message_meant(Size::SMALL, l, m));
+            start(out, b"holds", n, empty)?;
+            empty = show_held_one(out, m, message_meant(Size::SMALL, l, m))?;
             n += 1;
         }
     }
-    end(n);
+    end(out, n)
 }
 
 // The queue in its order. It has no more than the 128 blocks of the board.
-pub(crate) fn show_queue(l: &[u8], k: TaskNo, first: MessageMeant)
+pub(crate) fn show_queue<W: Write>(
+    out: &mut W,
+    l: &[u8],
+    k: TaskNo,
+    first: MessageMeant,
+) -> io::Result<()>
     requires { total small ≤ length l.now }
 {
     let mut next = first;
@@ -106,10 +116,10 @@ pub(crate) fn show_queue(l: &[u8], k: TaskNo, first: MessageMeant)
             break;
         };
         let u = message_at(Size::SMALL, l, m);
-        start(b"queue", n, empty);
-        empty = show_queued_one(m.number(), u, k);
+        start(out, b"queue", n, empty)?;
+        empty = show_queued_one(out, m.number(), u, k)?;
         next = u.next(Size::SMALL);
         n += 1;
     }
-    end(n);
+    end(out, n)
 }

@@ -17,144 +17,155 @@ use board::priority::number;
 use board::records::Task;
 use board::status::Status;
 use lent::bytes::{first_task, no_tasks, task_at};
-use libc::STDIN_FILENO;
 use lists::{show_held, show_queue};
 use on_timer::{show_stored, show_timer};
 use paper::answer::Refusal;
 use records::show_records;
+use std::io;
+use std::io::{LineWriter, Write};
+use std::rt::Files;
 use telling::finding::{Finding, judged, tell_running};
+use telling::input::read_full;
 use telling::print::{decimal_in, hex_word, shown, text};
 use telling::state::{print_state, state_of, tell_bit};
 use telling::timer_buffer::{is_lent, read_timer, timer_judged};
 use telling::totals::{tell_blocks, tell_installed};
 
-fn show_totals(l: &[u8], runs: u16)
+fn show_totals<W: Write>(out: &mut W, l: &[u8], runs: u16) -> io::Result<()>
     requires { total small ≤ length l.now }
 {
-    tell_installed(l);
-    text(b"; ");
-    tell_running(runs);
-    text(b"\n");
-    tell_blocks(l);
-    text(b"\n");
+    tell_installed(out, l)?;
+    text(out, b"; ")?;
+    tell_running(out, runs)?;
+    text(out, b"\n")?;
+    tell_blocks(out, l)?;
+    text(out, b"\n")?;
+    Ok(())
 }
 
 // The name as two characters, low byte first as it is stored, and as a word.
-pub(crate) fn show_name(w: u16) {
-    text(b"  '");
-    text(&[shown((w % 256) as u8), shown((w / 256) as u8)]);
-    text(b"' ");
-    hex_word(w);
+pub(crate) fn show_name<W: Write>(out: &mut W, w: u16) -> io::Result<()> {
+    text(out, b"  '")?;
+    text(out, &[shown((w % 256) as u8), shown((w / 256) as u8)])?;
+    text(out, b"' ")?;
+    hex_word(out, w)?;
+    Ok(())
 }
 
-fn show_state(s: Status, runs: bool) {
-    print_state(state_of(s, runs));
-    tell_bit(s, Status::INTQ, b", an interrupt is posted (INTQ)");
-    tell_bit(s, Status::DEBUG, b", being debugged (DEBUG)");
-    tell_bit(s, Status::MROB, b", main registers only (MROB)");
-    text(b"\n");
+fn show_state<W: Write>(out: &mut W, s: Status, runs: bool) -> io::Result<()> {
+    print_state(out, state_of(s, runs))?;
+    tell_bit(out, s, Status::INTQ, b", an interrupt is posted (INTQ)")?;
+    tell_bit(out, s, Status::DEBUG, b", being debugged (DEBUG)")?;
+    tell_bit(out, s, Status::MROB, b", main registers only (MROB)")?;
+    text(out, b"\n")?;
+    Ok(())
 }
 
-fn show_task(k: TaskNo, t: Task, runs: bool) {
+fn show_task<W: Write>(out: &mut W, k: TaskNo, t: Task, runs: bool) -> io::Result<()> {
     if runs {
-        text(b">");
+        text(out, b">")?;
     } else {
-        text(b" ");
+        text(out, b" ")?;
     }
-    decimal_in(k.number() as u64, 5);
-    show_name(t.name);
-    decimal_in(number(t.prio) as u64, 10);
-    text(b"  ");
-    hex_word(t.sptr);
-    text(b"  ");
-    show_state(t.stat, runs);
+    decimal_in(out, k.number() as u64, 5)?;
+    show_name(out, t.name)?;
+    decimal_in(out, number(t.prio) as u64, 10)?;
+    text(out, b"  ")?;
+    hex_word(out, t.sptr)?;
+    text(out, b"  ")?;
+    show_state(out, t.stat, runs)
 }
 
 // The tasks in queue order. A board that passes has no more than 32.
-fn show_tasks(l: &[u8], runs: u16)
+fn show_tasks<W: Write>(out: &mut W, l: &[u8], runs: u16) -> io::Result<()>
     requires { total small ≤ length l.now }
 {
-    text(b"\n  task  name        priority  SPTR   state\n");
+    text(out, b"\n  task  name        priority  SPTR   state\n")?;
     let mut next = first_task(Size::SMALL, l);
     let mut left: u16 = 32;
     while 0 < left {
         let TaskMeant::Task(k) = next else {
-            return;
+            return Ok(());
         };
         let t = task_at(Size::SMALL, l, k);
-        show_task(k, t, k.number() == runs);
-        show_held(l, k);
-        show_queue(l, k, t.first(Size::SMALL));
+        show_task(out, k, t, k.number() == runs)?;
+        show_held(out, l, k)?;
+        show_queue(out, l, k, t.first(Size::SMALL))?;
         next = t.next(Size::SMALL);
         left -= 1;
     }
+    Ok(())
 }
 
-fn show_board(l: &[u8], runs: u16)
+fn show_board<W: Write>(out: &mut W, l: &[u8], runs: u16) -> io::Result<()>
     requires { total small ≤ length l.now }
 {
-    show_totals(l, runs);
+    show_totals(out, l, runs)?;
     if !no_tasks(l) {
-        show_tasks(l, runs);
+        show_tasks(out, l, runs)?;
     }
+    Ok(())
 }
 
-fn show_refused(l: &[u8], q: Refusal)
+fn show_refused<W: Write>(out: &mut W, l: &[u8], q: Refusal) -> io::Result<()>
     requires { total small ≤ length l.now }
 {
     if let Refusal::RuleBroken(r) = q {
-        show_records(l, r);
+        show_records(out, l, r)?;
     }
+    Ok(())
 }
 
 // A board that passes, without a timer buffer.
-fn show_alone(l: &[u8], runs: u16)
+fn show_alone<W: Write>(out: &mut W, l: &[u8], runs: u16) -> io::Result<()>
     requires { total small ≤ length l.now }
 {
-    show_board(l, runs);
-    show_timer(l, b"");
+    show_board(out, l, runs)?;
+    show_timer(out, l, b"")
 }
 
 // The same with the buffer s.
-fn show_with(l: &[u8], runs: u16, s: &[u8])
+fn show_with<W: Write>(out: &mut W, l: &[u8], runs: u16, s: &[u8]) -> io::Result<()>
     requires { total small ≤ length l.now }
 {
-    if timer_judged(l, s) {
-        show_board(l, runs);
-        show_timer(l, s);
-        return;
+    if timer_judged(out, l, s)? {
+        show_board(out, l, runs)?;
+        return show_timer(out, l, s);
     }
-    show_alone(l, runs);
-    show_stored(s);
+    show_alone(out, l, runs)?;
+    show_stored(out, s)
 }
 
 // The buffer is read for a board that passes alone.
-fn show_passing(l: &[u8], runs: u16)
+fn show_passing<R: Files, W: Write>(rt: &R, out: &mut W, l: &[u8], runs: u16) -> io::Result<()>
     requires { total small ≤ length l.now }
 {
-    let mut space = io::large_buffer();
-    let n = read_timer(&mut space);
-    if is_lent(n) {
-        show_with(l, runs, &space[..n]);
+    let mut space = [0u8; 65536];
+    let n = read_timer(rt, &mut space)?;
+    if is_lent(rt, n)? {
+        show_with(out, l, runs, &space[..n])?;
     } else {
-        show_alone(l, runs);
+        show_alone(out, l, runs)?;
     }
+    Ok(())
 }
 
-fn show(l: &[u8]) {
-    let found = judged(l);
+fn show<R: Files, W: Write>(rt: &R, out: &mut W, l: &[u8]) -> io::Result<()> {
+    let found = judged(out, l)?;
     // the readers want to see a whole board; what is shorter was refused with 1
     if l.len() < 1476 {
-        return;
+        return Ok(());
     }
     match found {
-        Finding::Passes(runs) => show_passing(l, runs),
-        Finding::Refused(q) => show_refused(l, q),
+        Finding::Passes(runs) => show_passing(rt, out, l, runs),
+        Finding::Refused(q) => show_refused(out, l, q),
     }
 }
 
-fn main() {
-    let mut space = io::large_buffer();
-    let n = io::read_full(STDIN_FILENO, &mut space);
-    show(&space[..n]);
+fn main(rt: HostRuntime) -> io::Result<()> {
+    let mut out = LineWriter::new(rt.alloc(), rt.stdout())?;
+    let mut space = [0u8; 65536];
+    let n = read_full(&mut rt.stdin(), &mut space)?;
+    show(&rt, &mut out, &space[..n])?;
+    out.flush()
 }

@@ -15,68 +15,76 @@ use lent::bytes::{byte, task_at};
 use paper::answer::Rule;
 use record_rules::messages::zero_message;
 use record_rules::tasks::good_task;
+use std::io;
+use std::io::Write;
 use telling::print::{decimal, decimal_in, hex_byte, hex_word, text};
 use telling::state::tell_bit;
 
-fn start(marked: bool) {
+fn start<W: Write>(out: &mut W, marked: bool) -> io::Result<()> {
     if marked {
-        text(b">>");
+        text(out, b">>")?;
     } else {
-        text(b"  ");
+        text(out, b"  ")?;
     }
+    Ok(())
 }
 
 // STAT and PRIO in their columns.
-fn show_head(stat: u8, prio: u8) {
-    text(b"   ");
-    hex_byte(stat);
-    text(b"   ");
-    hex_byte(prio);
+fn show_head<W: Write>(out: &mut W, stat: u8, prio: u8) -> io::Result<()> {
+    text(out, b"   ")?;
+    hex_byte(out, stat)?;
+    text(out, b"   ")?;
+    hex_byte(out, prio)?;
+    Ok(())
 }
 
-fn show_number(w: u16) {
-    decimal_in(w as u64, 7);
+fn show_number<W: Write>(out: &mut W, w: u16) -> io::Result<()> {
+    decimal_in(out, w as u64, 7)?;
+    Ok(())
 }
 
 // R1 and R3, which name no record, are of these bytes, and R7, whose byte 1 may name no task.
-fn show_first_bytes(l: &[u8], marked: bool) {
-    start(marked);
-    text(b" first task of the task queue (byte 0): ");
-    decimal(byte(l, 0) as u64);
-    text(b"; bytes 1 to 3: ");
-    hex_byte(byte(l, 1));
-    text(b" ");
-    hex_byte(byte(l, 2));
-    text(b" ");
-    hex_byte(byte(l, 3));
-    text(b"\n");
+fn show_first_bytes<W: Write>(out: &mut W, l: &[u8], marked: bool) -> io::Result<()> {
+    start(out, marked)?;
+    text(out, b" first task of the task queue (byte 0): ")?;
+    decimal(out, byte(l, 0) as u64)?;
+    text(out, b"; bytes 1 to 3: ")?;
+    hex_byte(out, byte(l, 1))?;
+    text(out, b" ")?;
+    hex_byte(out, byte(l, 2))?;
+    text(out, b" ")?;
+    hex_byte(out, byte(l, 3))?;
+    text(out, b"\n")?;
+    Ok(())
 }
 
-fn show_bits(s: Status) {
+fn show_bits<W: Write>(out: &mut W, s: Status) -> io::Result<()> {
     if s.byte() == 0 {
-        text(b" none");
+        text(out, b" none")?;
     }
-    tell_bit(s, Status::WAIT, b" WAIT");
-    tell_bit(s, Status::IWAT, b" IWAT");
-    tell_bit(s, Status::BIT5, b" bit 5");
-    tell_bit(s, Status::INTQ, b" INTQ");
-    tell_bit(s, Status::DEBUG, b" DEBUG");
-    tell_bit(s, Status::MROB, b" MROB");
-    tell_bit(s, Status::MHBS, b" MHBS");
-    tell_bit(s, Status::TCBB, b" TCBB");
+    tell_bit(out, s, Status::WAIT, b" WAIT")?;
+    tell_bit(out, s, Status::IWAT, b" IWAT")?;
+    tell_bit(out, s, Status::BIT5, b" bit 5")?;
+    tell_bit(out, s, Status::INTQ, b" INTQ")?;
+    tell_bit(out, s, Status::DEBUG, b" DEBUG")?;
+    tell_bit(out, s, Status::MROB, b" MROB")?;
+    tell_bit(out, s, Status::MHBS, b" MHBS")?;
+    tell_bit(out, s, Status::TCBB, b" TCBB")?;
+    Ok(())
 }
 
-fn show_fields_of_task(t: Task) {
+fn show_fields_of_task<W: Write>(out: &mut W, t: Task) -> io::Result<()> {
     let s = t.stat;
-    show_head(s.byte(), t.prio);
-    show_number(t.link);
-    show_number(t.mptr);
-    text(b"  ");
-    hex_word(t.sptr);
-    show_name(t.name);
-    text(b" ");
-    show_bits(s);
-    text(b"\n");
+    show_head(out, s.byte(), t.prio)?;
+    show_number(out, t.link)?;
+    show_number(out, t.mptr)?;
+    text(out, b"  ")?;
+    hex_word(out, t.sptr)?;
+    show_name(out, t.name)?;
+    text(out, b" ")?;
+    show_bits(out, s)?;
+    text(out, b"\n")?;
+    Ok(())
 }
 
 // Ten zero bytes: so R2 wants the record of a task that is not there.
@@ -87,65 +95,71 @@ fn zero_task(t: Task) -> bool {
     good_task(t)
 }
 
-fn show_task(l: &[u8], k: u16, marked: bool)
+fn show_task<W: Write>(out: &mut W, l: &[u8], k: u16, marked: bool) -> io::Result<()>
     requires { total small ≤ length l.now }
 {
     let t = task_meant(Size::SMALL, l, k);
     if zero_task(t) {
-        return;
+        return Ok(());
     }
-    start(marked);
-    decimal_in(k as u64, 8);
-    show_fields_of_task(t);
+    start(out, marked)?;
+    decimal_in(out, k as u64, 8)?;
+    show_fields_of_task(out, t)
 }
 
-fn show_tasks(l: &[u8], marked: u16)
+fn show_tasks<W: Write>(out: &mut W, l: &[u8], marked: u16) -> io::Result<()>
     requires { total small ≤ length l.now }
 {
-    text(b"\n      task  STAT  PRIO   LINK   MPTR  SPTR   name        bits of STAT\n");
+    text(
+        out,
+        b"\n      task  STAT  PRIO   LINK   MPTR  SPTR   name        bits of STAT\n",
+    )?;
     let mut k: u16 = 0;
     while k < 32 {
         k += 1;
-        show_task(l, k, k == marked);
+        show_task(out, l, k, k == marked)?;
     }
+    Ok(())
 }
 
 // At a task, which may not be there.
-fn show_at(l: &[u8], words: &[u8], k: TaskNo)
+fn show_at<W: Write>(out: &mut W, l: &[u8], words: &[u8], k: TaskNo) -> io::Result<()>
     requires { total small ≤ length l.now }
 {
-    text(words);
-    decimal(k.number() as u64);
+    text(out, words)?;
+    decimal(out, k.number() as u64)?;
     let t = task_at(Size::SMALL, l, k);
     if !t.present() {
-        text(b", which is absent");
+        text(out, b", which is absent")?;
     }
+    Ok(())
 }
 
-fn show_place(l: &[u8], p: Place)
+fn show_place<W: Write>(out: &mut W, l: &[u8], p: Place) -> io::Result<()>
     requires { total small ≤ length l.now }
 {
     match p {
         Place::Free => {
-            text(b"free");
+            text(out, b"free")?;
         }
-        Place::HeldBy(k) => show_at(l, b"held by task ", k),
-        Place::QueuedAt(k) => show_at(l, b"queued at task ", k),
+        Place::HeldBy(k) => show_at(out, l, b"held by task ", k)?,
+        Place::QueuedAt(k) => show_at(out, l, b"queued at task ", k)?,
         Place::OnTimer => {
-            text(b"on the timer");
+            text(out, b"on the timer")?;
         }
         Place::Nowhere(b) => {
-            text(b"names no task: ");
-            hex_byte(b);
+            text(out, b"names no task: ")?;
+            hex_byte(out, b)?;
         }
     }
+    Ok(())
 }
 
-fn show_fields_of_message(u: Message) {
-    show_head(u.stat, u.prio);
-    show_number(u.link);
-    show_number(u.rptr);
-    show_number(u.sptr);
+fn show_fields_of_message<W: Write>(out: &mut W, u: Message) -> io::Result<()> {
+    show_head(out, u.stat, u.prio)?;
+    show_number(out, u.link)?;
+    show_number(out, u.rptr)?;
+    show_number(out, u.sptr)
 }
 
 fn free_and_zero(u: Message, p: Place) -> bool {
@@ -155,31 +169,36 @@ fn free_and_zero(u: Message, p: Place) -> bool {
     zero_message(u)
 }
 
-fn show_message(l: &[u8], m: u16, marked: bool)
+fn show_message<W: Write>(out: &mut W, l: &[u8], m: u16, marked: bool) -> io::Result<()>
     requires { total small ≤ length l.now }
 {
     let u = message_meant(Size::SMALL, l, m);
     let p = place_meant(Size::SMALL, l, m);
     if free_and_zero(u, p) {
-        return;
+        return Ok(());
     }
-    start(marked);
-    decimal_in(m as u64, 8);
-    show_fields_of_message(u);
-    text(b"  ");
-    show_place(l, p);
-    text(b"\n");
+    start(out, marked)?;
+    decimal_in(out, m as u64, 8)?;
+    show_fields_of_message(out, u)?;
+    text(out, b"  ")?;
+    show_place(out, l, p)?;
+    text(out, b"\n")?;
+    Ok(())
 }
 
-fn show_messages(l: &[u8], marked: u16)
+fn show_messages<W: Write>(out: &mut W, l: &[u8], marked: u16) -> io::Result<()>
     requires { total small ≤ length l.now }
 {
-    text(b"\n   message  STAT  PRIO   LINK   RPTR   SPTR  place\n");
+    text(
+        out,
+        b"\n   message  STAT  PRIO   LINK   RPTR   SPTR  place\n",
+    )?;
     let mut m: u16 = 0;
     while m < 128 {
         m += 1;
-        show_message(l, m, m == marked);
+        show_message(out, l, m, m == marked)?;
     }
+    Ok(())
 }
 
 // The number of the record that breaks the rule, 0 where bytes 0 to 3 do.
@@ -191,16 +210,15 @@ fn marked_by(r: Rule) -> u16 {
 }
 
 // All records, with that one marked which breaks the rule.
-pub(crate) fn show_records(l: &[u8], r: Rule)
+pub(crate) fn show_records<W: Write>(out: &mut W, l: &[u8], r: Rule) -> io::Result<()>
     requires { total small ≤ length l.now }
 {
     let n = marked_by(r);
-    show_first_bytes(l, n == 0);
+    show_first_bytes(out, l, n == 0)?;
     if let Rule::R4(_) = r {
-        show_tasks(l, 0);
-        show_messages(l, n);
-        return;
+        show_tasks(out, l, 0)?;
+        return show_messages(out, l, n);
     }
-    show_tasks(l, n);
-    show_messages(l, 0);
+    show_tasks(out, l, n)?;
+    show_messages(out, l, 0)
 }

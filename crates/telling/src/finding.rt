@@ -1,5 +1,5 @@
 // What the check says of a board, or the conversion of an old one, in one line of words that names the broken rule and the record.
-ghost use Rattle.std.specs.Prelude.{◌≡◌, nat_lt};
+ghost use Rattle.std.specs.Prelude.{◌≡◌, nat_lt, IfOk};
 ghost use Rattle.board.specs.Numbers.{small};
 ghost use Rattle.paper.specs.Outcomes.{Outcome, check};
 ghost use Rattle.paper.specs.Conversion.{convert};
@@ -10,6 +10,8 @@ use for_c::pack::{record_number, refusal_number, rule_number};
 use paper::answer::{Answer, Refusal, Rule};
 use rules::Edition;
 use station::{check, convert};
+use std::io;
+use std::io::Write;
 
 // The board passes, or is converted, and this task runs, 0 for none; or it is refused.
 #[derive(Clone, Copy)]
@@ -21,145 +23,167 @@ pub enum Finding {
 // A program reads so many bytes at most: more are not counted.
 const MOST: usize = 65536;
 
-pub(crate) fn tell_bytes(n: usize) {
-    thousands(n as u64);
+pub(crate) fn tell_bytes<W: Write>(out: &mut W, n: usize) -> io::Result<()> {
+    thousands(out, n as u64)?;
     if n == 1 {
-        text(b" byte");
-        return;
+        text(out, b" byte")?;
+        return Ok(());
     }
-    text(b" bytes");
+    text(out, b" bytes")?;
     if MOST <= n {
-        text(b" or more");
+        text(out, b" or more")?;
     }
+    Ok(())
 }
 
-fn tell_length(n: usize) {
-    tell_bytes(n);
-    text(b"; a board is 1,476");
+fn tell_length<W: Write>(out: &mut W, n: usize) -> io::Result<()> {
+    tell_bytes(out, n)?;
+    text(out, b"; a board is 1,476")?;
+    Ok(())
 }
 
 // What is wrong, with the number of the record between the words, or with byte 1.
-fn tell_record(before: &[u8], n: u16, behind: &[u8]) {
-    text(before);
-    decimal(n as u64);
-    text(behind);
+fn tell_record<W: Write>(out: &mut W, before: &[u8], n: u16, behind: &[u8]) -> io::Result<()> {
+    text(out, before)?;
+    decimal(out, n as u64)?;
+    text(out, behind)?;
+    Ok(())
 }
 
 // R1, of today or of old boards.
-fn tell_rule1(edition: Edition) {
+fn tell_rule1<W: Write>(out: &mut W, edition: Edition) -> io::Result<()> {
     match edition {
         Edition::Today => {
-            text(b"bytes 2 and 3 are not zero");
+            text(out, b"bytes 2 and 3 are not zero")?;
         }
         Edition::Old => {
-            text(b"bytes 1 to 3 are not zero");
+            text(out, b"bytes 1 to 3 are not zero")?;
         }
     }
+    Ok(())
 }
 
 // R7: what byte 1 is, or the task that ran on an old board.
-fn tell_rule7(edition: Edition, n: u16) {
+fn tell_rule7<W: Write>(out: &mut W, edition: Edition, n: u16) -> io::Result<()> {
     match edition {
-        Edition::Today => tell_record(b"byte 1 is ", n, b", and names no task that may run"),
-        Edition::Old => tell_record(b"the running task ", n, b" is still due a message (MHBS)"),
+        Edition::Today => tell_record(out, b"byte 1 is ", n, b", and names no task that may run"),
+        Edition::Old => tell_record(
+            out,
+            b"the running task ",
+            n,
+            b" is still due a message (MHBS)",
+        ),
     }
 }
 
 // A rule of document 01, as it is in this edition and as the record n breaks it.
-fn tell_fault(edition: Edition, r: Rule, n: u16) {
+fn tell_fault<W: Write>(out: &mut W, edition: Edition, r: Rule, n: u16) -> io::Result<()> {
     match r {
-        Rule::R1 => tell_rule1(edition),
+        Rule::R1 => tell_rule1(out, edition)?,
         Rule::R2(_) => tell_record(
+            out,
             b"the record of task ",
             n,
             b" is neither zero nor that of a task (STAT and PRIO)",
-        ),
+        )?,
         Rule::R3 => {
-            text(b"the task queue does not visit exactly the present tasks, in order of priority");
+            text(
+                out,
+                b"the task queue does not visit exactly the present tasks, in order of priority",
+            )?;
         }
-        Rule::R4(_) => tell_record(b"the record of message ", n, b" does not go with its place"),
+        Rule::R4(_) => tell_record(
+            out,
+            b"the record of message ",
+            n,
+            b" does not go with its place",
+        )?,
         Rule::R5(_) => tell_record(
+            out,
             b"the queue of task ",
             n,
             b" does not visit exactly the messages placed there, in order of priority",
-        ),
+        )?,
         Rule::R6(_) => tell_record(
+            out,
             b"WAIT, IWAT, INTQ and MHBS of task ",
             n,
             b" do not go together, or not with its queue",
-        ),
-        Rule::R7(_) => tell_rule7(edition, n),
+        )?,
+        Rule::R7(_) => tell_rule7(out, edition, n)?,
     }
+    Ok(())
 }
 
-fn tell_rule(edition: Edition, r: Rule) {
-    text(b"rule ");
-    decimal(rule_number(r) as u64);
-    text(b": ");
-    tell_fault(edition, r, record_number(r));
+fn tell_rule<W: Write>(out: &mut W, edition: Edition, r: Rule) -> io::Result<()> {
+    text(out, b"rule ")?;
+    decimal(out, rule_number(r) as u64)?;
+    text(out, b": ")?;
+    tell_fault(out, edition, r, record_number(r))
 }
 
 // The check and the conversion give two refusals only: the length is wrong, or a rule is broken.
-fn tell_reason(edition: Edition, q: Refusal, n: usize) {
+fn tell_reason<W: Write>(out: &mut W, edition: Edition, q: Refusal, n: usize) -> io::Result<()> {
     if let Refusal::RuleBroken(r) = q {
-        tell_rule(edition, r);
-        return;
+        return tell_rule(out, edition, r);
     }
-    tell_length(n);
+    tell_length(out, n)
 }
 
 // The refusal of a board of n bytes by the rules of this edition.
-fn tell_refusal(edition: Edition, q: Refusal, n: usize) {
-    text(b"refused (");
-    decimal(refusal_number(q) as u64);
-    text(b"): ");
-    tell_reason(edition, q, n);
-    text(b"\n");
+fn tell_refusal<W: Write>(out: &mut W, edition: Edition, q: Refusal, n: usize) -> io::Result<()> {
+    text(out, b"refused (")?;
+    decimal(out, refusal_number(q) as u64)?;
+    text(out, b"): ")?;
+    tell_reason(out, edition, q, n)?;
+    text(out, b"\n")?;
+    Ok(())
 }
 
 // What was answered of a board of n bytes by the rules of this edition; a refusal is told in its line.
-fn found(edition: Edition, a: Answer, n: usize) -> Finding
-    ensures { result ≡ finding_of a }
+fn found<W: Write>(out: &mut W, edition: Edition, a: Answer, n: usize) -> io::Result<Finding>
+    ensures { IfOk result (λ f. f ≡ finding_of a) }
 {
     match a {
         Answer::Accepted {
             value: _,
             running,
             delivered: _,
-        } => Finding::Passes(running),
+        } => Ok(Finding::Passes(running)),
         Answer::Refused(q) => {
-            tell_refusal(edition, q, n);
-            Finding::Refused(q)
+            tell_refusal(out, edition, q, n)?;
+            Ok(Finding::Refused(q))
         }
     }
 }
 
 // The board is checked.
-pub fn judged(l: &[u8]) -> Finding
-    ensures { result ≡ finding_of (check small l.now).answer }
+pub fn judged<W: Write>(out: &mut W, l: &[u8]) -> io::Result<Finding>
+    ensures { IfOk result (λ f. f ≡ finding_of (check small l.now).answer) }
 {
     let a = check(l);
-    found(Edition::Today, a, l.len())
+    found(out, Edition::Today, a, l.len())
 }
 
-// An old board is converted where it lies.
-pub fn converted(l: &mut [u8]) -> Finding
-    ensures { (result ≡ finding_of (convert small l.old).answer) × (l.new ≡ (convert small l.old).after) }
+// An old board is converted where it lies, whether or not its refusal can be told.
+pub fn converted<W: Write>(out: &mut W, l: &mut [u8]) -> io::Result<Finding>
+    ensures answers { IfOk result (λ f. f ≡ finding_of (convert small l.old).answer) }
+    ensures leaves { l.new ≡ (convert small l.old).after }
 {
     let a = convert(l);
-    found(Edition::Old, a, l.len())
+    found(out, Edition::Old, a, l.len())
 }
 
 // Who runs, 0 for none; true if one does.
-pub fn tell_running(k: u16) -> bool
-    ensures { result ≡ nat_lt 0 k }
+pub fn tell_running<W: Write>(out: &mut W, k: u16) -> io::Result<bool>
+    ensures { IfOk result (λ b. b ≡ nat_lt 0 k) }
 {
     if k == 0 {
-        text(b"no task is ready to run");
-        return false;
+        text(out, b"no task is ready to run")?;
+        return Ok(false);
     }
-    text(b"task ");
-    decimal(k as u64);
-    text(b" runs");
-    true
+    text(out, b"task ")?;
+    decimal(out, k as u64)?;
+    text(out, b" runs")?;
+    Ok(true)
 }

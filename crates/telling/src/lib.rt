@@ -1,9 +1,15 @@
-// PROGRAMS. What the programs that a person reads share: what the check found, a call, the state of a task, the totals of a board
-// and a timer buffer in words, and printing in columns. No contract can say what a write does; a printing function says how many
-// columns it takes, which a table rests on.
+// PROGRAMS. What the programs that a person reads share: bytes from standard input, what the check found, a call, the state of a task,
+// the totals of a board and a timer buffer in words, and printing in columns. A printing function is handed what it writes to, and ends
+// where that fails; where it does not, its contract says how many columns were taken, which a table rests on.
+#![tactic(auto)]
+
 pub mod call;
 pub mod finding;
+pub mod input;
 pub mod print;
 pub mod state;
 pub mod timer_buffer;
 pub mod totals;
+
+// Named here, since std's `io` has the crate's name elsewhere.
+use io::decimal as digits_of;

@@ -1,46 +1,48 @@
-// Text on standard output. Each function answers how many columns it took.
-ghost use Rattle.std.specs.Prelude.{◌≡◌, ◌+◌, ◌-◌, ◌%◌, ◌<◌, ◌≤◌, length};
+// Text on what is written to. Each function answers how many columns it took.
+ghost use Rattle.std.specs.Prelude.{◌≡◌, ◌+◌, ◌-◌, ◌%◌, ◌<◌, ◌≤◌, length, IfOk};
 ghost use Rattle.io.specs.Digits.{IsDigitCount};
 
-use libc::STDOUT_FILENO;
+use crate::digits_of;
+use std::io;
+use std::io::Write;
 
-pub fn text(t: &[u8]) -> usize
-    ensures { result ≡ length t.now }
+pub fn text<W: Write>(out: &mut W, t: &[u8]) -> io::Result<usize>
+    ensures { IfOk result (λ n. n ≡ length t.now) }
 {
-    io::write_all(STDOUT_FILENO, t);
-    t.len()
+    out.write_all(t)?;
+    Ok(t.len())
 }
 
 // Spaces up to the width of a column, of which some is taken.
-pub fn pad(taken: usize, width: usize) -> usize
-    ensures { result ≡ taken + (width - taken) }
+pub fn pad<W: Write>(out: &mut W, taken: usize, width: usize) -> io::Result<usize>
+    ensures { IfOk result (λ n. n ≡ taken + (width - taken)) }
 {
     let mut at = taken;
     while at < width {
-        text(b" ");
+        text(out, b" ")?;
         at += 1;
     }
-    at
+    Ok(at)
 }
 
-pub fn decimal(n: u64) -> usize
-    ensures { (IsDigitCount 10 1 n result) × (result ≤ 20) }
+pub fn decimal<W: Write>(out: &mut W, n: u64) -> io::Result<usize>
+    ensures { IfOk result (λ k. (IsDigitCount 10 1 n k) × (k ≤ 20)) }
 {
     let mut digits = [0u8; 20];
-    let k = io::decimal(n, &mut digits);
-    io::write_all(STDOUT_FILENO, &digits[..k]);
-    k
+    let k = digits_of(n, &mut digits);
+    text(out, &digits[..k])?;
+    Ok(k)
 }
 
 // A number at the right end of its column.
-pub fn decimal_in(n: u64, width: usize) -> usize
-    ensures { width ≤ result }
+pub fn decimal_in<W: Write>(out: &mut W, n: u64, width: usize) -> io::Result<usize>
+    ensures { IfOk result (λ n. width ≤ n) }
 {
     let mut digits = [0u8; 20];
-    let k = io::decimal(n, &mut digits);
-    let all = pad(k, width);
-    io::write_all(STDOUT_FILENO, &digits[..k]);
-    all
+    let k = digits_of(n, &mut digits);
+    let all = pad(out, k, width)?;
+    text(out, &digits[..k])?;
+    Ok(all)
 }
 
 // The last hexadecimal digit of a word.
@@ -53,13 +55,19 @@ fn hex_digit(w: u16) -> u8 {
 }
 
 // A number below a million, with a comma before its last three digits.
-pub fn thousands(n: u64) -> usize
-    ensures { result ≤ 24 }
+pub fn thousands<W: Write>(out: &mut W, n: u64) -> io::Result<usize>
+    ensures { IfOk result (λ n. n ≤ 24) }
 {
     if n < 1000 {
-        return decimal(n);
+        return decimal(out, n);
     }
-    decimal(n / 1000) + text(&[b',', last_digit(n / 100), last_digit(n / 10), last_digit(n)])
+    Ok(
+        decimal(out, n / 1000)?
+            + text(
+                out,
+                &[b',', last_digit(n / 100), last_digit(n / 10), last_digit(n)],
+            )?,
+    )
 }
 
 pub fn last_digit(n: u64) -> u8
@@ -69,24 +77,27 @@ pub fn last_digit(n: u64) -> u8
 }
 
 // A byte as the paper writes it, with an H behind it.
-pub fn hex_byte(b: u8) -> usize
-    ensures { result ≡ 3 }
+pub fn hex_byte<W: Write>(out: &mut W, b: u8) -> io::Result<usize>
+    ensures { IfOk result (λ n. n ≡ 3) }
 {
     let w = b as u16;
-    text(&[hex_digit(w / 16), hex_digit(w), b'H'])
+    text(out, &[hex_digit(w / 16), hex_digit(w), b'H'])
 }
 
 // A word likewise.
-pub fn hex_word(w: u16) -> usize
-    ensures { result ≡ 5 }
+pub fn hex_word<W: Write>(out: &mut W, w: u16) -> io::Result<usize>
+    ensures { IfOk result (λ n. n ≡ 5) }
 {
-    text(&[
-        hex_digit(w / 4096),
-        hex_digit(w / 256),
-        hex_digit(w / 16),
-        hex_digit(w),
-        b'H',
-    ])
+    text(
+        out,
+        &[
+            hex_digit(w / 4096),
+            hex_digit(w / 256),
+            hex_digit(w / 16),
+            hex_digit(w),
+            b'H',
+        ],
+    )
 }
 
 // A byte as a character that can be printed: a dot stands for one that cannot.

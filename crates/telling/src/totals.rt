@@ -1,5 +1,5 @@
 // How many tasks are installed and how many blocks lie where, and the same in words.
-ghost use Rattle.std.specs.Prelude.{◌≡◌, ◌≤◌, length};
+ghost use Rattle.std.specs.Prelude.{◌≡◌, ◌≤◌, length, IfOk};
 ghost use Rattle.board.specs.Numbers.{small};
 ghost use Rattle.board.specs.Board.{board_of, total};
 ghost use Rattle.paper.specs.Rules.{present};
@@ -9,6 +9,8 @@ ghost use Rattle.telling.specs.Totals.{within};
 use crate::print::{decimal, text};
 use board::numbers::Size;
 use lent::by_word::{place_meant, task_meant};
+use std::io;
+use std::io::Write;
 
 // How many tasks are installed.
 pub fn count_present(z: Size, l: &[u8]) -> u16
@@ -59,30 +61,30 @@ pub fn blocks(l: &[u8], low: u8, high: u8) -> u16
 }
 
 // Answers how many tasks are installed.
-pub fn tell_installed(l: &[u8]) -> u16
+pub fn tell_installed<W: Write>(out: &mut W, l: &[u8]) -> io::Result<u16>
     requires { total small ≤ length l.now }
-    ensures { result ≡ counted (present (board_of small l.now)) 32 }
+    ensures { IfOk result (λ n. n ≡ counted (present (board_of small l.now)) 32) }
 {
     let n = count_present(Size::SMALL, l);
-    decimal(n as u64);
-    text(b" of 32 tasks installed");
-    n
+    decimal(out, n as u64)?;
+    text(out, b" of 32 tasks installed")?;
+    Ok(n)
 }
 
 // Answers how many blocks are free.
-pub fn tell_blocks(l: &[u8]) -> u16
+pub fn tell_blocks<W: Write>(out: &mut W, l: &[u8]) -> io::Result<u16>
     requires { total small ≤ length l.now }
-    ensures { result ≡ counted (within (board_of small l.now) 0 0) 128 }
+    ensures { IfOk result (λ n. n ≡ counted (within (board_of small l.now) 0 0) 128) }
 {
     let free = blocks(l, 0, 0);
-    text(b"128 blocks: ");
-    decimal(free as u64);
-    text(b" free, ");
-    decimal(blocks(l, 1, 32) as u64);
-    text(b" held, ");
-    decimal(blocks(l, 65, 96) as u64);
-    text(b" queued, ");
-    decimal(blocks(l, 128, 128) as u64);
-    text(b" on the timer");
-    free
+    text(out, b"128 blocks: ")?;
+    decimal(out, free as u64)?;
+    text(out, b" free, ")?;
+    decimal(out, blocks(l, 1, 32) as u64)?;
+    text(out, b" held, ")?;
+    decimal(out, blocks(l, 65, 96) as u64)?;
+    text(out, b" queued, ")?;
+    decimal(out, blocks(l, 128, 128) as u64)?;
+    text(out, b" on the timer")?;
+    Ok(free)
 }
