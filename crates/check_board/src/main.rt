@@ -1,4 +1,5 @@
-// PROGRAM. A board from standard input, and what the check says of it in one line: it passes and who runs, or it is refused and why.
+// PROGRAM. A board from standard input, and what the check says of it in one line: it passes and who runs, or it is refused and
+// why.
 #![tactic(auto)]
 
 use std::io;

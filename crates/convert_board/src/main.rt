@@ -1,5 +1,5 @@
-// PROGRAM. A board from standard input that was saved when byte 1 was always zero, and the bytes of the new board that it becomes, or the
-// refusal in one line.
+// PROGRAM. A board from standard input that was saved when byte 1 was always zero, and the bytes of the new board that it
+// becomes, or the refusal in one line.
 #![tactic(auto)]
 
 use std::io;

@@ -12,8 +12,8 @@ use std::io;
 use std::io::Write;
 use telling::print::{decimal_in, pad, text};
 
-// Where message n of a list goes: the first behind the label, every third below it, the others beside the one before, which left some
-// columns empty.
+// Where message n of a list goes: the first behind the label, every third below it, the others beside the one before, which left
+// some columns empty.
 fn start<W: Write>(out: &mut W, label: &[u8], n: u16, empty: u16) -> io::Result<()> {
     if n == 0 {
         pad(out, 0, 8)?;

@@ -1,5 +1,5 @@
-// The tables of a board that breaks a rule: every record that is not zero, by its number, since the links of such a board may lead
-// anywhere. The line of what the rule names is marked.
+// The tables of a board that breaks a rule: every record that is not zero, by its number, since the links of such a board may
+// lead anywhere. The line of what the rule names is marked.
 ghost use Rattle.std.specs.Prelude.{◌≤◌, length};
 ghost use Rattle.board.specs.Numbers.{small};
 ghost use Rattle.board.specs.Board.{total};

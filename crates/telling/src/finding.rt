@@ -1,4 +1,5 @@
-// What the check says of a board, or the conversion of an old one, in one line of words that names the broken rule and the record.
+// What the check says of a board, or the conversion of an old one, in one line of words that names the broken rule and the
+// record.
 ghost use Rattle.std.specs.Prelude.{◌≡◌, nat_lt, IfOk};
 ghost use Rattle.board.specs.Numbers.{small};
 ghost use Rattle.paper.specs.Outcomes.{Outcome, check};

@@ -1,6 +1,6 @@
-// PROGRAMS. What the programs that a person reads share: bytes from standard input, what the check found, a call, the state of a task,
-// the totals of a board and a timer buffer in words, and printing in columns. A printing function is handed what it writes to, and ends
-// where that fails; where it does not, its contract says how many columns were taken, which a table rests on.
+// PROGRAMS. What the programs that a person reads share: reading bytes, what the check found, a call, the state of a task, the
+// totals of a board and a timer buffer in words, and printing in columns. A printing function is handed what it writes to, and
+// ends with the error where that fails. Its contract says how many columns it takes else, which a table rests on.
 #![tactic(auto)]
 
 pub mod call;
