@@ -3,7 +3,7 @@
 #![tactic(auto)]
 
 use std::io;
-use std::io::{LineWriter, Write};
+use std::io::Write;
 use telling::finding::{Finding, judged, tell_running};
 use telling::input::read_full;
 use telling::print::text;
@@ -20,7 +20,7 @@ fn tell<W: Write>(out: &mut W, l: &[u8]) -> io::Result<()> {
 }
 
 fn main(rt: HostRuntime) -> io::Result<()> {
-    let mut out = LineWriter::new(rt.alloc(), rt.stdout())?;
+    let mut out = rt.stdout();
     let mut space = [0u8; 65536];
     let n = read_full(&mut rt.stdin(), &mut space)?;
     tell(&mut out, &space[..n])?;

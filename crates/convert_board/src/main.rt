@@ -3,7 +3,7 @@
 #![tactic(auto)]
 
 use std::io;
-use std::io::{LineWriter, Write};
+use std::io::Write;
 use telling::finding::{Finding, converted};
 use telling::input::read_full;
 
@@ -16,7 +16,7 @@ fn convert<W: Write>(out: &mut W, l: &mut [u8]) -> io::Result<()> {
 }
 
 fn main(rt: HostRuntime) -> io::Result<()> {
-    let mut out = LineWriter::new(rt.alloc(), rt.stdout())?;
+    let mut out = rt.stdout();
     let mut space = [0u8; 65536];
     let n = read_full(&mut rt.stdin(), &mut space)?;
     convert(&mut out, &mut space[..n])?;

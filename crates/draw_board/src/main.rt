@@ -20,7 +20,7 @@ use on_timer::draw_on_timer;
 use page::{draw_foot, draw_head, draw_row, draw_task, end_row};
 use rows::{TOP, foot, queue_rows, row_height, timer_height};
 use std::io;
-use std::io::{LineWriter, Write};
+use std::io::Write;
 use std::rt::Files;
 use telling::finding::{Finding, judged};
 use telling::input::read_full;
@@ -91,7 +91,7 @@ fn draw<R: Files, W: Write>(rt: &R, out: &mut W, l: &[u8]) -> io::Result<()> {
 }
 
 fn main(rt: HostRuntime) -> io::Result<()> {
-    let mut out = LineWriter::new(rt.alloc(), rt.stdout())?;
+    let mut out = rt.stdout();
     let mut space = [0u8; 65536];
     let n = read_full(&mut rt.stdin(), &mut space)?;
     draw(&rt, &mut out, &space[..n])?;

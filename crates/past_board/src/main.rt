@@ -23,7 +23,7 @@ use roles::first_timed;
 use station::fresh;
 use std::env::Env;
 use std::io;
-use std::io::{LineWriter, Read, Write};
+use std::io::{Read, Write};
 use telling::finding::{Finding, judged};
 use telling::input::read_full;
 use telling::print::{decimal, text};
@@ -127,7 +127,7 @@ fn way_asked(rt: &impl Env) -> Way {
 }
 
 fn main(rt: HostRuntime) -> io::Result<()> {
-    let mut out = LineWriter::new(rt.alloc(), rt.stdout())?;
+    let mut out = rt.stdout();
     let mut input = rt.stdin();
     match way_asked(&rt) {
         Way::Words => one_board(&mut input, &mut out, false)?,

@@ -13,7 +13,7 @@ use for_c::pack::{record_number, refusal_number, rule_number};
 use paper::answer::{Answer, Refusal};
 use paper::call::Call;
 use std::io;
-use std::io::{BufReader, ErrorKind, LineWriter, Read, Write};
+use std::io::{ErrorKind, Read, Write};
 
 // What a case asks for. Start and tick are handed the timer buffer too.
 #[derive(Clone, Copy)]
@@ -319,8 +319,8 @@ fn one_case<R: Read, W: Write>(input: &mut R, out: &mut W) -> io::Result<bool> {
 
 // Each line is written when it ends, so that who hands over the cases may wait for it.
 fn main(rt: HostRuntime) -> io::Result<()> {
-    let mut input = BufReader::new(rt.alloc(), rt.stdin())?;
-    let mut out = LineWriter::new(rt.alloc(), rt.stdout())?;
+    let mut input = rt.stdin();
+    let mut out = rt.stdout();
     let mut turns = u64::MAX;
     while turns > 0 {
         if !one_case(&mut input, &mut out)? {

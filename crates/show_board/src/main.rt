@@ -22,7 +22,7 @@ use on_timer::{show_stored, show_timer};
 use paper::answer::Refusal;
 use records::show_records;
 use std::io;
-use std::io::{LineWriter, Write};
+use std::io::Write;
 use std::rt::Files;
 use telling::finding::{Finding, judged, tell_running};
 use telling::input::read_full;
@@ -163,7 +163,7 @@ fn show<R: Files, W: Write>(rt: &R, out: &mut W, l: &[u8]) -> io::Result<()> {
 }
 
 fn main(rt: HostRuntime) -> io::Result<()> {
-    let mut out = LineWriter::new(rt.alloc(), rt.stdout())?;
+    let mut out = rt.stdout();
     let mut space = [0u8; 65536];
     let n = read_full(&mut rt.stdin(), &mut space)?;
     show(&rt, &mut out, &space[..n])?;
