@@ -30,7 +30,8 @@ bench:
 	@bench/run $(if $(BEFORE),--before '$(BEFORE)')
 
 clean:
-	@rm -rf target crates/*/out bench/target model/target rust/target 2>/dev/null || { echo '$(CURDIR)/target cannot be removed' >&2; exit 1; }
+	@rm -rf target crates/*/out bench/target model/target rust/target 2>/dev/null || \
+	    { echo '$(CURDIR)/target cannot be removed' >&2; exit 1; }
 
 help:
 	@sed -n 's/^# //p' Makefile

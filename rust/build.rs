@@ -1,5 +1,5 @@
-//! Where the proved library is: the folder `STATION_LIB_DIR`, or else the repository's own, where `tests/libraries` puts it. It is
-//! for x86-64.
+//! Where the proved library is: the folder `STATION_LIB_DIR`, or else the repository's own, where `tests/libraries` puts it. It
+//! is for x86-64.
 use std::env::var_os;
 use std::path::{Path, PathBuf};
 

@@ -1,4 +1,5 @@
-// PROMISE. What C links, over the crate station: the names, arguments and packing are fixed. A lent slice is a pointer and a length.
+// PROMISE. What C links, over the crate station: the names, arguments and packing are fixed. A lent slice is a pointer and a
+// length.
 #![tactic(auto)]
 
 ghost use Rattle.std.specs.Prelude.{◌≡◌};
