@@ -1,207 +1,258 @@
 #!/usr/bin/env python3
-"""Proof.antt by position -> Answers.antt and Invariants.antt. usage: convert.py NAMES ROOT [CRATE..]"""
-import json,os,re,sys
-names=json.load(open(sys.argv[1])); root=sys.argv[2]; only=sys.argv[3:]
-FN={}
-for k,v in names.items():
-    if k.endswith('.Lts'):
-        FN[k.split('.',1)[1][:-4]]=v
-norm=lambda s:s.replace('_','-')
-PATH=re.compile(r"(?<![\w'.₀-₉-])([A-Za-z][\w'₀-₉]*(?:-[\w'₀-₉]+)*)((?:\.[\w'₀-₉]+(?:-[\w'₀-₉]+)*)+)")
-report=[]
-class Fn:
-    def __init__(s,o):
-        s.o=o
-        s.places=o['places']; s.idx={norm(p[0]):i for i,p in enumerate(s.places)}
-        s.arms=o['arms']
-        s.needs={norm(a):b for a,b in o['needs']}
-        s.at={norm(n[0]):s.idx[norm(a[0])] for n,a in zip(o['needs'],o['asked_at']) if norm(a[0]) in s.idx}
-    def parent(s,i):
-        p=s.places[i][1]
-        return None if p is None else s.idx[norm(p)]
-    def chain(s,i):
-        out=[]
-        while i is not None: out.append(i); i=s.parent(i)
-        return out
-def resolve(fn,goalplace,place,fields):
-    """returns ('place',i) or ('path',text) or None. The count of steps back differs between kits: a step is found by its name, the nearest
-    to where the count leads."""
-    chain=fn.chain(goalplace)
-    nb=0
-    while nb<len(fields) and fields[nb]=='before': nb+=1
-    rest=fields[nb:]
-    depth=(chain.index(place) if place in chain else 0)+nb
-    if not rest: 
-        return ('place',chain[min(depth,len(chain)-1)])
-    f=rest[0]
-    if f in('args','requires','ranges','well-formed','well_formed'):
-        return ('path','c.'+'.'.join(rest).replace('well-formed','well_formed'))
-    same=lambda x: re.sub('_lem$','',norm(x).replace('-lem','')).lower()
-    cand=[(abs(i-depth),i) for i,p in enumerate(chain) if same(fn.places[p][2][0])==same(f)]
-    if not cand: return None
-    cur=chain[min(cand)[1]]
-    old,new=fn.places[cur][2]
-    tail=rest[1:]
-    best=None
-    for i in chain:
-        arm=fn.arms[i] if i<len(fn.arms) else None
-        if not arm: continue
-        for ent in arm[2]:
-            nf,st,path=ent[0],ent[1],ent[2]
-            if norm(st)==norm(old) and path and [str(x) for x in path]==tail[:len(path)]:
-                if best is None or len(path)>len(best[1]): best=(arm[0]+'.'+nf,path)
-        if best: break
-    if best:
-        r=tail[len(best[1]):]
-        return ('path','c.'+best[0]+''.join('.'+x for x in r))
-    ren=dict(fn.places[cur][4] or [])
-    if tail and tail[0] in ren: tail=[ren[tail[0]]]+tail[1:]
-    if tail and (tail[0].startswith('keys') or tail[0]=='given'):
-        return ('path','c.'+new+'.'+'.'.join(tail)+'{-?-}')
-    return ('path','c.'+new+''.join('.'+x for x in tail))
-def convert_body(fn,goalplace,body,where):
-    env={'c':goalplace}
-    lines=body
-    # handle let aliases sequentially: find 'let X = PATH in'
-    out='';pos=0
-    LET=re.compile(r"let ([\w'₀-₉-]+) = ([A-Za-z][\w'₀-₉-]*)((?:\.[\w'₀-₉]+(?:-[\w'₀-₉]+)*)+) in(\s*)")
-    def sub(text):
-        def one(m):
-            h,fs=m.group(1),m.group(2)[1:].split('.')
-            if h not in env: return m.group(0)
-            r=resolve(fn,goalplace,env[h],fs)
-            if r is None:
-                report.append(f'{where}: unresolved {m.group(0)}'); return m.group(0)+'{-?-}'
-            if r[0]=='place':
-                report.append(f'{where}: place used whole {m.group(0)}'); return m.group(0)+'{-?-}'
-            if '{-?-}' in r[1]: report.append(f'{where}: look {m.group(0)} -> {r[1]}')
-            return r[1]
-        return PATH.sub(one,text)
-    while True:
-        m=LET.search(body,pos)
-        if not m: out+=sub(body[pos:]); break
-        out+=sub(body[pos:m.start()])
-        x,h,fs=m.group(1),m.group(2),m.group(3)[1:].split('.')
-        done=False
-        if h in env:
-            r=resolve(fn,goalplace,env[h],fs)
-            if r and r[0]=='place':
-                env[x]=r[1]; done=True
-                # keep indentation of following
-                if not out.endswith((' ','\n')): out+=' '
-            elif r:
-                env.pop(x,None)
-                if '{-?-}' in r[1]: report.append(f'{where}: look {m.group(0)} -> {r[1]}')
-                out+=f'let {x} = {r[1]} in'+m.group(4); done=True
-        if not done:
-            if h in env: report.append(f'{where}: unresolved let {m.group(0)}')
-            env.pop(x,None)
-            out+=m.group(0)
-        pos=m.end()
-    return out
-def decls(text):
-    """head (comments, uses), then list of (name, block)"""
-    lines=text.split('\n'); head=[]; blocks=[]; cur=None
-    for l in lines:
-        if re.match(r"(abbrev |pub |unfoldable )*[^\s:({-][^\s:]* :",l) and not l.startswith(('use','--','mod')):
-            cur=[l]; blocks.append(cur)
-        elif cur is None: head.append(l)
-        elif l.startswith('--') or (l.startswith('module ')):
-            cur=[l]; blocks.append(cur)
-        else: cur.append(l)
-    return head,['\n'.join(b).rstrip() for b in blocks]
-def subst_vars(body,mp):
-    return re.sub(r"(?<![\w'.₀-₉-])([A-Za-z][\w'₀-₉]*(?:-[\w'₀-₉]+)*)(?![\w'₀-₉-])",lambda m: mp.get(m.group(1),m.group(1)),body)
-count=0
-for d,ds,fs in os.walk(os.path.join(root,'crates')):
-    if 'Proof.antt' not in fs or '/proofs/' not in d: continue
-    crate=d.split('/crates/')[1].split('/')[0]
-    if only and crate not in only: continue
-    fpath=d.split('/proofs/')[1].replace('/','.')
-    key=f'{crate}.{fpath}'
-    if key not in FN:
-        report.append(f'{key}: not in names'); continue
-    fn=Fn(FN[key]); path=os.path.join(d,'Proof.antt')
-    text=open(path).read(); head,blocks=decls(text)
-    if any('use ' in h and '.Lts' in h for h in head): report.append(f'{key}: uses Lts')
-    uses=[h for h in head if h.startswith('use ') and not re.search(r"\.(Statement|Tie|Lts)\b",h)]
-    comment=[h for h in head if h.startswith('--')]
-    ans=[];inv=[];pending=[]
-    for b in blocks:
-        if b.startswith('--') and '\n' not in b.strip() : pending.append(b); continue
-        m=re.match(r"((?:abbrev |pub |unfoldable )*)([^\s:]+) : (.*)",b)
-        if not m: ans.append('\n'.join(pending+[b])); pending=[]; continue
-        name,typ=m.group(2),m.group(3)
-        if name.endswith('-spec') or name.endswith('_spec'): pending=[]; continue
-        t=re.match(r"tie\.(invariant|decreases)-([^\s]+)$",typ)
-        if t:
-            rest=b.split('\n',1)[1]
-            mm=re.match(r"\s*(?:unfolding [^\n]*\n)?%s ([^=]*)=(.*)"%re.escape(name),rest,re.S)
-            loops=fn.o['loops']; li=None
-            for q,(nm,vs) in enumerate(loops):
-                if norm(nm[0])==norm(t.group(2)): li=q
-            if li is None or not mm:
-                report.append(f'{key}: invariant {name} not converted'); ans.append(b); continue
-            vs=loops[li][1]; ch=fn.o['changed'][li]
-            ps=mm.group(1).split(); n=len(vs)
-            changed=[v for v,c in zip(vs,ch) if c]
-            if len(ps)!=n+len(changed):
-                report.append(f'{key}: {name} has {len(ps)} parameters, {n}+{len(changed)} vars {vs} {ch}')
-            mp={}
-            for p,v,c in zip(ps[:n],vs,ch): mp[p]=('l.initial.' if c else 'l.')+v
-            for p,v in zip(ps[n:],changed): mp[p]='l.'+v
-            mp.pop('_',None)
-            nn=f'{t.group(1)}-{loops[li][0][1]}'
-            body=mm.group(2)
-            body=subst_vars(body,mp)
-            inv.append('\n'.join(pending+[f'abbrev pub {nn} : goal.{nn}',f'{nn} l ={body}'])); pending=[]
+"""Turns proofs by position (Proof.antt of an older kit) into answers by name: Answers.antt, and Invariants.antt where there is a loop.
+
+usage: tools/answers.py NAMES ROOT [CRATE..]
+
+NAMES is the names.json that `rt check --generated FOLDER --old-names` writes for a crate, or for one scratch crate that holds the sources
+of many as its modules, without their contracts; then a crate need not be proved before the next one is turned. ROOT has crates/. An answer
+that only searches goes away, since the check searches by itself. Each thing that is left to do by hand is printed, and has {-?-} where it
+stands.
+"""
+import json
+import os
+import re
+import sys
+
+NAME = r"[A-Za-z][\w'₀-₉]*(?:-[\w'₀-₉]+)*"
+FIELDS = r"(?:\.[\w'₀-₉]+(?:-[\w'₀-₉]+)*)+"
+PATH = re.compile(r"(?<![\w'.₀-₉-])(" + NAME + r")(" + FIELDS + ")")
+ALIAS = re.compile(r"let ([\w'₀-₉-]+) = ([A-Za-z][\w'₀-₉-]*)(" + FIELDS + r") in(\s*)")
+OF_START = ("args", "requires", "ranges", "well-formed", "well_formed")
+LEFT = " {-?-}"
+left = []
+
+
+def dashed(name):
+    """Older proofs spell a name with a dash where the source has an underscore."""
+    return name.replace("_", "-")
+
+
+def alike(name):
+    return re.sub("-lem$", "", dashed(name)).lower()
+
+
+class Function:
+    """What the kit says of a function: its places, each with the one before it and its step, and its goals, each by its old name."""
+
+    def __init__(self, said):
+        self.places, self.arms, self.loops, self.changed = said["places"], said["arms"], said["loops"], said["changed"]
+        self.index = {dashed(place[0]): i for i, place in enumerate(self.places)}
+        self.goals = {dashed(old): new for old, new in said["needs"]}
+        self.place_of = {}
+        for (old, _), (place, _) in zip(said["needs"], said["asked_at"]):
+            if dashed(place) in self.index:
+                self.place_of[dashed(old)] = self.index[dashed(place)]
+
+    def chain(self, place):
+        """The place and all before it, the nearest first."""
+        found = []
+        while place is not None:
+            found.append(place)
+            before = self.places[place][1]
+            place = None if before is None else self.index[dashed(before)]
+        return found
+
+    def goal(self, old):
+        for name in (old, re.sub("^overflow-", "", old)):
+            if name in self.goals:
+                return self.goals[name], self.place_of.get(name)
+        return None, None
+
+    def arm_field(self, chain, step, tail):
+        """The name, in an arm of a match, of what old proofs cite below a step; and how many fields it stands for."""
+        for place in chain:
+            arm = self.arms[place] if place < len(self.arms) else None
+            fits = [
+                (len(path), field)
+                for field, of, path in (entry[:3] for entry in (arm[2] if arm else []))
+                if dashed(of) == dashed(step) and path and [str(part) for part in path] == tail[: len(path)]
+            ]
+            if fits:
+                count, field = max(fits)
+                return f"{arm[0]}.{field}", count
+        return None, 0
+
+    def resolve(self, goal_place, place, fields):
+        """Where a path leads that starts at a place: ('place', number), ('path', text), or None. How many steps there are differs between
+        kits, so a step is found by its name, the nearest to where the count leads."""
+        chain = self.chain(goal_place)
+        back = next((i for i, field in enumerate(fields) if field != "before"), len(fields))
+        depth = (chain.index(place) if place in chain else 0) + back
+        rest = fields[back:]
+        if not rest:
+            return "place", chain[min(depth, len(chain) - 1)]
+        if rest[0] in OF_START:
+            return "path", "c." + ".".join(rest).replace("well-formed", "well_formed")
+        near = [(abs(i - depth), i) for i, at in enumerate(chain) if alike(self.places[at][2][0]) == alike(rest[0])]
+        if not near:
+            return None
+        at = chain[min(near)[1]]
+        (old, new), tail = self.places[at][2], rest[1:]
+        field, count = self.arm_field(chain, old, tail)
+        if field:
+            return "path", ".".join(["c", field, *tail[count:]])
+        renamed = dict(self.places[at][4] or [])
+        if tail and tail[0] in renamed:
+            tail = [renamed[tail[0]], *tail[1:]]
+        unknown = LEFT if tail and (tail[0].startswith("keys") or tail[0] == "given") else ""
+        return "path", ".".join(["c", new, *tail]) + unknown
+
+    def turned(self, goal_place, body, where):
+        """The body of an answer with its paths by name. A variable that stood for a place goes away."""
+        places = {"c": goal_place}
+
+        def one(found):
+            head, fields = found[1], found[2][1:].split(".")
+            if head not in places:
+                return found[0]
+            to = self.resolve(goal_place, places[head], fields)
+            if to is None or to[0] == "place":
+                left.append(f"{where}: {found[0]}")
+                return found[0] + LEFT
+            if to[1].endswith(LEFT):
+                left.append(f"{where}: {found[0]} is {to[1]}")
+            return to[1]
+
+        out, done = "", 0
+        for found in ALIAS.finditer(body):
+            if found.start() < done:
+                continue
+            out += PATH.sub(one, body[done : found.start()])
+            variable, head, fields = found[1], found[2], found[3][1:].split(".")
+            to = self.resolve(goal_place, places[head], fields) if head in places else None
+            places.pop(variable, None)
+            if to and to[0] == "place":
+                places[variable] = to[1]
+                out += "" if out.endswith((" ", "\n")) else " "
+            elif to:
+                out += f"let {variable} = {to[1]} in{found[4]}"
+            else:
+                out += found[0]
+            done = found.end()
+        return out + PATH.sub(one, body[done:])
+
+    def loop(self, old):
+        """A loop by its old name: its new name, its variables, and which of them it changes."""
+        for (names, variables), changed in zip(self.loops, self.changed):
+            if dashed(names[0]) == dashed(old):
+                return names[1], variables, changed
+        return None, [], []
+
+
+def declarations(text):
+    """What stands before the first declaration, and each declaration, the comment above it as one of its own."""
+    head, found = [], []
+    for line in text.split("\n"):
+        if re.match(r"(abbrev |pub |unfoldable )*[^\s:({-][^\s:]* :", line) and not line.startswith(("use", "mod")):
+            found.append([line])
+        elif not found:
+            head.append(line)
+        elif line.startswith(("--", "module ")):
+            found.append([line])
+        else:
+            found[-1].append(line)
+    return head, ["\n".join(lines).rstrip() for lines in found]
+
+
+def clause(name, rest):
+    """The arguments and the body of a declaration's one clause, and a line 'unfolding' before it."""
+    unfolding = re.match(r"unfolding [^\n]*\n", rest)
+    line = unfolding[0] if unfolding else ""
+    found = re.match(rf"\s*{re.escape(name)} ([^=]*)=(.*)", rest[len(line) :], re.S)
+    return (found[1].split(), found[2].rstrip(), line) if found else (None, None, line)
+
+
+def invariant(function, kind, old, name, rest):
+    """An invariant or a measure of a loop, over one record of the variables: l.x, and l.initial.x as the loop began."""
+    loop, variables, changed = function.loop(old)
+    arguments, body, _ = clause(name, rest)
+    again = [variable for variable, changes in zip(variables, changed) if changes]
+    if not loop or arguments is None or len(arguments) != len(variables) + len(again):
+        return None
+    to = {a: ("l.initial." if changes else "l.") + v for a, v, changes in zip(arguments, variables, changed)}
+    to.update(zip(arguments[len(variables) :], ("l." + variable for variable in again)))
+    word = re.compile(r"(?<![\w'.₀-₉-])(" + NAME + r")(?![\w'₀-₉-])")
+    body = word.sub(lambda found: to.get(found[1], found[1]), body)
+    return f"abbrev pub {kind}-{loop} : goal.{kind}-{loop}\n{kind}-{loop} l ={body}"
+
+
+def turn(function, text, where):
+    """The answers and the invariants of a file."""
+    head, found = declarations(text)
+    answers, invariants, comment = [], [], []
+    for one in found:
+        if one.startswith("--"):
+            comment.append(one)
             continue
-        t=re.match(r"tie\.Need-([^\s]+)(.*)$",typ)
-        if not t:
-            ans.append('\n'.join(pending+[b])); pending=[]; report.append(f'{key}: helper {name}'); continue
-        old=norm(t.group(1))
-        if old not in fn.needs and old.startswith('overflow-'): old=old[9:]
-        if old not in fn.needs and old.startswith('shared-slice-read'): old=old.replace('shared-slice-read','shared-read') if old.replace('shared-slice-read','shared-read') in fn.needs else old
-        if old not in fn.needs:
-            report.append(f'{key}: no goal {old}; has {list(fn.needs)}'); ans.append('\n'.join(pending+[b])); pending=[]; continue
-        new=fn.needs[old]; gp=fn.at.get(old)
-        rest=b.split('\n',1)[1] if '\n' in b else ''
-        unf=''
-        um=re.match(r"(unfolding [^\n]*\n)",rest)
-        if um: unf=um.group(1); rest=rest[um.end():]
-        mm=re.match(r"%s ((?:[^\s=]+ )*)=(.*)"%re.escape(name),rest,re.S)
-        if not mm: report.append(f'{key}: {name} form'); ans.append('\n'.join(pending+[b])); pending=[]; continue
-        args=mm.group(1).strip()
-        if args=='c κs': args='c'
-        if args!='c': report.append(f'{key}: {name} args {args}')
-        body=mm.group(2)
-        if re.fullmatch(r"\s*search rules",body): pending=[]; continue
-        body=convert_body(fn,gp,body,f'{key}:{name}') if gp is not None else body
-        if gp is None: report.append(f'{key}: {name} place?')
-        body=body.rstrip()
-        if unf: report.append(f'{key}: {name} unfolding')
-        ans.append('\n'.join(pending+[f'pub {new} : goal.{new}',f'{unf}{new} {args} ={body}'])); pending=[]
-    P=f'Rattle.{crate}.proofs.{fpath}'
-    os.remove(path)
-    def out(fname,items,mod):
-        if not items: return
-        body='\n\n'.join(items)
-        keep=[]
-        for u in uses:
-            m=re.match(r"use ([^{]*)\.\{([^}]*)\}",u)
-            if not m: keep.append(u); continue
-            ns=[n.strip() for n in m.group(2).split(',')]
-            def used(n):
-                n=n.split(' as ')[-1].strip()
-                if n.startswith('◌') or n.endswith('◌') or '◌' in n: 
-                    parts=[x for x in n.split('◌') if x]
-                    return all(x in body for x in parts)
-                return re.search(r"(?<![\w'₀-₉-])%s(?![\w'₀-₉-])"%re.escape(n),body) is not None
-            ns=[n for n in ns if used(n)]
-            if ns: keep.append(f'use {m.group(1)}.{{{", ".join(ns)}}}')
-        txt='\n'.join(comment+keep+[f'use {P}.{mod} as goal'])+'\n\n'+body+'\n'
-        open(os.path.join(d,fname),'w').write(txt)
-    out('Answers.antt',ans,'Goals'); out('Invariants.antt',inv,'Given')
-    count+=1
-print(count,'converted'); 
-for r in report: print(r)
+        said = re.match(r"(?:abbrev |pub |unfoldable )*([^\s:]+) : ([^\n]*)\n?(.*)", one, re.S)
+        name, statement, rest = said.groups() if said else (None, "", "")
+        loop = re.match(r"tie\.(invariant|decreases)-(\S+)$", statement)
+        need = re.match(r"tie\.Need-(\S+)", statement)
+        to, at = function.goal(dashed(need[1])) if need else (None, None)
+        arguments, body, unfolding = clause(name, rest) if name else (None, None, "")
+        if name and name.endswith(("-spec", "_spec")):
+            pass
+        elif loop and invariant(function, loop[1], loop[2], name, rest):
+            invariants.append("\n".join([*comment, invariant(function, loop[1], loop[2], name, rest)]))
+        elif to and at is not None and arguments in (["c"], ["c", "κs"]):
+            if body.strip() != "search rules":
+                turned = function.turned(at, body, f"{where}: {name}")
+                answers.append("\n".join([*comment, f"pub {to} : goal.{to}", f"{unfolding}{to} c ={turned}"]))
+        else:
+            left.append(f"{where}: {name or one} stays as it is")
+            answers.append("\n".join([*comment, one]))
+        comment = []
+    return head, answers, invariants
+
+
+def used(name, body):
+    name = name.split(" as ")[-1].strip()
+    if "◌" in name:
+        return all(part in body for part in name.split("◌") if part)
+    return re.search(rf"(?<![\w'₀-₉-]){re.escape(name)}(?![\w'₀-₉-])", body) is not None
+
+
+def write(folder, file, head, items, goals):
+    if not items:
+        return
+    body, lines = "\n\n".join(items), [line for line in head if line.startswith("--")]
+    for line in head:
+        found = re.match(r"use ([^{]*)\.\{([^}]*)\}", line)
+        if not line.startswith("use ") or re.search(r"\.(Statement|Tie|Lts)\b", line):
+            continue
+        names = [name.strip() for name in found[2].split(",") if used(name.strip(), body)] if found else []
+        if names or not found:
+            lines.append(f"use {found[1]}.{{{', '.join(names)}}}" if found else line)
+    with open(os.path.join(folder, file), "w", encoding="utf-8") as out:
+        out.write("\n".join([*lines, f"use {goals} as goal"]) + "\n\n" + body + "\n")
+
+
+def main():
+    if len(sys.argv) < 3:
+        sys.exit(__doc__)
+    with open(sys.argv[1], encoding="utf-8") as file:
+        said = {key.split(".", 1)[1][: -len(".Lts")]: of for key, of in json.load(file).items() if key.endswith(".Lts")}
+    count = 0
+    for folder, _, files in os.walk(os.path.join(sys.argv[2], "crates")):
+        if "Proof.antt" not in files or "/proofs/" not in folder:
+            continue
+        crate = folder.split("/crates/")[1].split("/")[0]
+        function = folder.split("/proofs/")[1].replace("/", ".")
+        of = said.get(f"{crate}.{function}", said.get(function))
+        if sys.argv[3:] and crate not in sys.argv[3:]:
+            continue
+        if not of:
+            left.append(f"{crate}.{function}: NAMES has no such function")
+            continue
+        path = os.path.join(folder, "Proof.antt")
+        with open(path, encoding="utf-8") as file:
+            head, answers, invariants = turn(Function(of), file.read(), f"{crate}.{function}")
+        os.remove(path)
+        write(folder, "Answers.antt", head, answers, f"Rattle.{crate}.proofs.{function}.Goals")
+        write(folder, "Invariants.antt", head, invariants, f"Rattle.{crate}.proofs.{function}.Given")
+        count += 1
+    print(f"{count} turned", *left, sep="\n")
+
+
+if __name__ == "__main__":
+    main()
