@@ -317,7 +317,7 @@ fn one_case<R: Read, W: Write>(input: &mut R, out: &mut W) -> io::Result<bool> {
     )
 }
 
-// Each line is written when it ends, so that who hands over the cases may wait for it.
+// Nothing is read ahead or kept back, so that who hands over the cases may wait for each line.
 fn main(rt: HostRuntime) -> io::Result<()> {
     let mut input = rt.stdin();
     let mut out = rt.stdout();
