@@ -68,7 +68,7 @@ fn draw_passing<R: Files, W: Write>(rt: &R, out: &mut W, l: &[u8], runs: u16) ->
     requires { total small ≤ length l.now }
 {
     let mut space = [0u8; 65536];
-    let n = read_timer(rt, &mut space)?;
+    let n = read_timer(&mut space);
     if !is_lent(rt, n)? {
         return draw_board(out, l, runs, b"");
     }

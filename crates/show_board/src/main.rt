@@ -141,7 +141,7 @@ fn show_passing<R: Files, W: Write>(rt: &R, out: &mut W, l: &[u8], runs: u16) ->
     requires { total small ≤ length l.now }
 {
     let mut space = [0u8; 65536];
-    let n = read_timer(rt, &mut space)?;
+    let n = read_timer(&mut space);
     if is_lent(rt, n)? {
         show_with(out, l, runs, &space[..n])?;
     } else {

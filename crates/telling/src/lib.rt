@@ -12,4 +12,4 @@ pub mod timer_buffer;
 pub mod totals;
 
 // Named here, since std's `io` has the crate's name elsewhere.
-use io::decimal as digits_of;
+use io::{decimal as digits_of, read_full as read_descriptor};

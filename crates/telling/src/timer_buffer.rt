@@ -1,7 +1,7 @@
 // A timer buffer beside a board that passes: whether it is one for that board, and in words why not; and when its messages are
 // due. A program is handed it on descriptor 3, where the board is on standard input.
 ghost use Rattle.std.specs.Prelude.{◌≡◌, ◌+◌, ◌<◌, ◌≤◌, true, length, IfOk};
-ghost use Rattle.std.specs.Io.{ReadsAtMost};
+ghost use Rattle.io.specs.Counts.{IsPrefixLen};
 ghost use Rattle.board.specs.Numbers.{small};
 ghost use Rattle.board.specs.Board.{board_of, total};
 ghost use Rattle.timing.specs.Timing.{good_timer, wrapped};
@@ -9,6 +9,7 @@ ghost use Rattle.timing.specs.Timing.{good_timer, wrapped};
 use crate::finding::tell_bytes;
 use crate::input::read_full;
 use crate::print::{decimal, text};
+use crate::read_descriptor;
 use board::numbers::Size;
 use lent::by_word::is_timed;
 use std::io::{ErrorKind, Write};
@@ -17,7 +18,9 @@ use std::{fs, io};
 use timer::bytes::entry_at;
 use timer_rules::good_timer;
 
-// Descriptor 3, and what the system tells of it.
+const TIMER_FILENO: i32 = 3;
+
+// Descriptor 3 by its path, and what the system tells of it.
 const TIMER: &str = "/dev/fd/3";
 
 const TOLD_OF_TIMER: &str = "/proc/self/fdinfo/3";
@@ -55,15 +58,11 @@ fn is_open<R: Files>(rt: &R) -> io::Result<bool> {
     }
 }
 
-// How many bytes it has, up to what there is space for; none where the descriptor is not open.
-pub fn read_timer<R: Files>(rt: &R, space: &mut [u8]) -> io::Result<usize>
-    ensures { ReadsAtMost result space.new }
+// How many bytes it has, up to what there is space for.
+pub fn read_timer(space: &mut [u8]) -> usize
+    ensures { IsPrefixLen result space.new }
 {
-    if !is_open(rt)? {
-        return Ok(0);
-    }
-    let mut timer = fs::open(rt, TIMER)?;
-    read_full(&mut timer, space)
+    read_descriptor(TIMER_FILENO, space)
 }
 
 // Of so many bytes read: was there a buffer? One of no bytes is not the same as none.
@@ -73,7 +72,11 @@ pub fn is_lent<R: Files>(rt: &R, n: usize) -> io::Result<bool>
     if 0 < n {
         return Ok(true);
     }
-    is_open(rt)
+    if !is_open(rt)? {
+        return Ok(false);
+    }
+    // a directory is open for reading, and yet cannot be read
+    Ok(!fs::metadata(rt, TIMER)?.is_dir())
 }
 
 // The lowest entry that names message m, 0 if none does.
