@@ -1,5 +1,5 @@
 -- A board without DEBUG and MROB. A reader must believe this file.
---   bare s          the status with DEBUG and MROB cleared
+--   bare s           the status with DEBUG and MROB cleared
 --   bare_task t      the task so, if it is present; an absent one is ten zero bytes by R2, which either bit would break
 --   bare_board b     the board with every task so
 -- Assumes nothing.

@@ -71,8 +71,8 @@ module _ (z : Size) (l : List ℕ) where
       λ i. board (get_or (set l n v) 0 0) (get_or (set l n v) 1 0) (take 2 (drop-set-lt 2 l n v w i)) (t i) (m i) (p i)
 
   -- byte 0
-  pub board-put_first : (v : ℕ) → 1 ≤ length l → board_of z (put_first l v) ≡ with_first (board_of z l) v
-  board-put_first v h = let b = board_of z l in
+  pub board-put-first : (v : ℕ) → 1 ≤ length l → board_of z (put_first l v) ≡ with_first (board_of z l) v
+  board-put-first v h = let b = board_of z l in
       head_kept 0 v (lit< tt)
       ∙ (λ i. board (get_or-set_same l 0 v 0 h i) (first_other l v i) b.zeros b.tasks b.messages b.places)
 

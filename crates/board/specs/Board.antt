@@ -1,9 +1,9 @@
 -- The board: document 01, 'What the board holds'. A reader must believe this file.
---   total z            the bytes of a board of size z; 1,476 for the small one
+--   total z             the bytes of a board of size z; 1,476 for the small one
 --   board_of z l        the bytes l read once as a board of records; bytes_of b the board written back
---   board first ..     the board of these bytes and records; with_first, with_running, with_tasks, with_messages, with_places: b with that
---                      field so
---   task b k           task k, a record of zeros for 0 and numbers beyond the board; so message b m; place b m is then Free
+--   board first ..      the board of these bytes and records; with_first, with_running, with_tasks, with_messages, with_places: b with that
+--                       field so
+--   task b k            task k, a record of zeros for 0 and numbers beyond the board; so message b m; place b m is then Free
 --   with_task b k t     the board with task k so and nothing else changed; for 0 and beyond it is b itself; so with_message, with_place
 -- Assumes nothing.
 use Rattle.std.specs.Prelude.{List, [], ◌∷◌, ◌++◌, map, ℕ, zero, suc, ◌+◌, ◌*◌, get_or, set, take, drop}

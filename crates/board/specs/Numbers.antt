@@ -1,10 +1,10 @@
 -- The two kinds of numbers and the sizes of a board. A reader must believe this file.
---   small            the board of document 01: 32 tasks, 128 messages
---   Numbered n k     k is a number from 1 to n
---   outside last n   n is 0 or above the last number
---   task_meant z w    the task that the word w means on a board of size z, if any; message_meant likewise
+--   small              the board of document 01: 32 tasks, 128 messages
+--   Numbered n k       k is a number from 1 to n
+--   outside last n     n is 0 or above the last number
+--   task_meant z w     the task that the word w means on a board of size z, if any; message_meant likewise
 --   number_of_task t   its number, 0 for no task; number_of_message likewise
---   on_board last w   w itself where it is a number up to the last, else 0
+--   on_board last w    w itself where it is a number up to the last, else 0
 -- Assumes nothing.
 use Rattle.std.specs.Prelude.{Bool, cond, ◌||◌, ℕ, ◌≤◌, eqb, ltb}
 use Rattle.board.specs.declared.numbers.Size.{Size}

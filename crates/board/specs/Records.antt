@@ -1,7 +1,7 @@
 -- Task and message records and the bytes they are made of: document 01, 'What the board holds'. A reader must believe this file.
---   Byte x, Word x      x fits a byte, a word
---   word_at l i          the word at i, low byte first; word_bytes w its two bytes
---   task_of l            the task record in these ten bytes, task_bytes t the bytes of a record; message_of, message_bytes: eight bytes
+--   Byte x, Word x        x fits a byte, a word
+--   word_at l i           the word at i, low byte first; word_bytes w its two bytes
+--   task_of l             the task record in these ten bytes, task_bytes t the bytes of a record; message_of, message_bytes: eight bytes
 --   no_task, no_message   the records of zeros
 --   task_with_stat t s .. the record with one field changed, the others as they were
 -- Assumes nothing.

@@ -1,8 +1,8 @@
 -- STAT and PRIO: document 01, 'What the board holds'. A reader must believe this file.
---   has s BIT          the bit is set; with_bit s BIT and without_bit s BIT are s with that bit set, cleared, and the others as they were
+--   has s BIT           the bit is set; with_bit s BIT and without_bit s BIT are s with that bit set, cleared, and the others as they were
 --   is_present s        TCBB is set; with R2 this says that the record isn't ten zero bytes
 --   is_ready s          present, WAIT and IWAT 0
---   number p           the priority number in a PRIO byte, bits 7 to 1; fifo p its bit 0; with_fifo p the byte with bit 0 set
+--   number p            the priority number in a PRIO byte, bits 7 to 1; fifo p its bit 0; with_fifo p the byte with bit 0 set
 -- Assumes nothing.
 use Rattle.std.specs.Prelude.{Bool, not, ◌&&◌, ℕ, ◌+◌, ◌-◌, ◌*◌, ◌/◌, ◌%◌, eqb}
 use Rattle.std.specs.Int.Bits.{bit_and, bit_or}

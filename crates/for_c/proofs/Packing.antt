@@ -11,7 +11,7 @@ use Rattle.paper.specs.declared.answer.Answer.{Answer}
 use Rattle.paper.specs.declared.answer.Answer.TheVariants.{Accepted, Refused}
 use Rattle.paper.specs.Answers.{rule_number, record_number, told, number_of, handed}
 use Rattle.paper.proofs.Theorems.{number_2, others_told}
-use Rattle.paper.proofs.Naming.{rule-number}
+use Rattle.paper.proofs.Naming.{rule_number_lem}
 use Rattle.for_c.specs.Packed.{packed}
 
 -- ---- the rule and the record of a refusal
@@ -21,7 +21,7 @@ pub named_rule : {q : Refusal} {r : Rule} {x n w : ℕ} → q ≡ RuleBroken r �
 named_rule {r = r} e p n w h =
     let rule = ap (λ (y : Refusal). (told y).rule) e in
     let record_no = ap (λ (y : Refusal). (told y).record_no) e in
-    let last = (rule-number r).1 in
+    let last = (rule_number_lem r).1 in
     (omega arith, omega arith)
 
 -- any other

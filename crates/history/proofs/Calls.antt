@@ -1,5 +1,5 @@
 -- Each call on a board and on its machine: the same refusal, and where none is given the same value and again a board and its machine.
--- A call more costs a row of calls-alike.
+-- A call more costs a row of calls_alike.
 -- Assumes nothing.
 use mathlib.Core.Path.{◌≡◌, refl, sym, subst}
 use mathlib.Core.Logic.{◌≢◌}

@@ -95,7 +95,7 @@ case_first_by_rank : fired 2 2 ≡ Accepted 0 0 0 ∷ Accepted 0 1 2 ∷ Accepte
 case_first_by_rank = refl
 
 -- of equals, FIFO, the one of the earlier entry
-case_equals_in_entry-order :
+case_equals_in_entry_order :
     drop 8 (plain_run tiny begin (Called (Install 1 0x01 0x31 0 0) ∷ Called Claim ∷ Called Claim ∷ Called (Prepare 1 0 0x15 1)
     ∷ Called (Prepare 2 0 0x15 1) ∷ Started 2 1 ∷ Started 1 1 ∷ Called ReceiveAndWait ∷ Ticked ∷ [])).answers ≡ Accepted 0 1 2 ∷ []
-case_equals_in_entry-order = refl
+case_equals_in_entry_order = refl

@@ -1,14 +1,14 @@
 -- Demand 3 as statements; their proofs are in proofs/Ranks, proofs/Theorems and proofs/Coded. A reader must believe this file.
---   OneRanking           of entries made at different times exactly one list is the ranking
---   LinksRank next x l   the links from x are exactly the ranking of the entries l, and then 0
---   Agrees z l p         the bytes l and the plain machine p agree: the board passes, the links from byte 0 and from each MPTR are the
---                        rankings, every other field is the machine's, and byte 1 is the machine's running task
+--   OneRanking            of entries made at different times exactly one list is the ranking
+--   LinksRank next x l    the links from x are exactly the ranking of the entries l, and then 0
+--   Agrees z l p          the bytes l and the plain machine p agree: the board passes, the links from byte 0 and from each MPTR are the
+--                         rankings, every other field is the machine's, and byte 1 is the machine's running task
 --   plain_run z x events  the machine after these events, and its answers
---   zeros                a timer buffer of zeros
---   LinksAgree           whatever calls, starts and ticks are made from the fresh board and a buffer of zeros, all answers agree, one by one,
---                        and afterwards the bytes agree, and the buffer is the machine's
---   CodeAgrees           so it is with every program that meets the contracts of fresh, of the step, of start and of tick (Rattle.station,
---                        src/lib.rt): fresh is lent no buffer, so whoever makes the board zeroes it
+--   zeros                 a timer buffer of zeros
+--   LinksAgree            whatever calls, starts and ticks are made from the fresh board and a buffer of zeros, all answers agree, one by one,
+--                         and afterwards the bytes agree, and the buffer is the machine's
+--   CodeAgrees            so it is with every program that meets the contracts of fresh, of the step, of start and of tick (Rattle.station,
+--                         src/lib.rt): fresh is lent no buffer, so whoever makes the board zeroes it
 -- Assumes nothing.
 use Rattle.std.specs.Prelude.{◌≡◌, true, List, [], ◌∷◌, ℕ, length, replicate, eqb}
 use Rattle.links.specs.Chain.{Chain}

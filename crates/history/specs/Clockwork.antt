@@ -1,9 +1,9 @@
 -- The plain machine with its timer: document 02, Ask 5. It keeps now and the sixteen entries beside what Machine keeps; a message that is
 -- due is a placement made at that tick, in entry order. A reader must believe this file, and can read it beside Machine. What becomes of now
 -- and of the entries is timing's (Timing), as are 16 and 17: nothing of that looks at a link.
---   Clocked              a plain machine and its timer; begin: at the fresh board, with a buffer of zeros
+--   Clocked                a plain machine and its timer; begin: at the fresh board, with a buffer of zeros
 --   play_start, play_tick  start and tick as rows: their refusals behind 18, and the machine before dispatch
---   happens z p event    the answer of an event, and the machine afterwards
+--   happens z p event      the answer of an event, and the machine afterwards
 -- Assumes nothing.
 use Rattle.std.specs.Prelude.{cond, List, [], ◌∷◌, ℕ, replicate}
 use Rattle.board.specs.declared.numbers.Size.{Size}

@@ -1,7 +1,7 @@
 -- The search of a list for the first one that passes a test: what a turn of such a loop, and its end, make of the definition. So
 -- for the places of a board.
 --   first_above test q i   the number of the first one of q above number i that passes, 0 if none; f of it is what the loop is to
---                         answer
+--                          answer
 --   found_above test b m   the first message above m whose place passes
 -- Assumes nothing.
 use mathlib.Core.Path.{◌≡◌, sym, ◌∙◌}

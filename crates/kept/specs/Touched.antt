@@ -7,7 +7,7 @@
 --     move               a task or a message that goes into or out of a list of links, with its PRIO byte p
 --   changed f k q        the function f with q at k
 --   order_after, queues_after   the lists after a move, from the lists before it: what demand 3's plain machine is compared with
---   queue_of move         the task whose MPTR, and in whose queue LINKs, may change, 0 for none
+--   queue_of move        the task whose MPTR, and in whose queue LINKs, may change, 0 for none
 --   relinks move         LINKs of tasks and byte 0 may change
 --   SameBut bits s u     the statuses s and u have the same bits but for these
 --   Frame b d ..         the board d is b but for those

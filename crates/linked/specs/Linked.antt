@@ -10,7 +10,7 @@ use Rattle.board.specs.Numbers.{task_no, Numbered}
 use Rattle.board.specs.Board.{Board, task, place}
 use Rattle.paper.specs.Rules.{present, next_task, next_message, task_number, message_number}
 
--- a chain that ends visits nothing twice (links, chain-once), so 'exactly those' is 'exactly those, once each'
+-- a chain that ends visits nothing twice (links, chain_once), so 'exactly those' is 'exactly those, once each'
 pub record Listing (next number : ℕ → ℕ) (x : ℕ) (q : List ℕ) (Member : ℕ → Type 0) : Type 0 where
   pub chain : Chain next x q
   pub exact : (y : ℕ) → In y q ↔ Member y

@@ -1,17 +1,17 @@
 -- Queues as lists of numbers, for tasks and messages alike; nothing here knows of bytes. A reader must believe this file.
---   walk next n x       the numbers that the links visit from x, 0 being the end, at most n of them
---   ends next n x       that walk comes to 0: where one link more than n isn't 0 it gives up (document 01, below R7)
+--   walk next n x        the numbers that the links visit from x, 0 being the end, at most n of them
+--   ends next n x        that walk comes to 0: where one link more than n isn't 0 it gives up (document 01, below R7)
 --   first_of q           the first of a queue, 0 if none; rest_of q the others
 --   goes_before f p x    one of priority number p goes before one of number x (f: FIFO, else LIFO)
---   insert goes m q     q with m before the first x of which goes x is true, else at the end
---   without m q         q with m taken out
---   relink link b q     b with each of q linked to the one behind it and the last to 0, where link b x y links x to y
---   which f n l         the numbers, counted from n, of those in l that f is true of
---   rearranged q l      q has the members of l, each as often, in whatever order
+--   insert goes m q      q with m before the first x of which goes x is true, else at the end
+--   without m q          q with m taken out
+--   relink link b q      b with each of q linked to the one behind it and the last to 0, where link b x y links x to y
+--   which f n l          the numbers, counted from n, of those in l that f is true of
+--   rearranged q l       q has the members of l, each as often, in whatever order
 --   rising number low q no priority number of q is below the one before it, nor the first below low
---   lists ..            R3 and R5 alike: what the links of a queue must visit
+--   lists ..             R3 and R5 alike: what the links of a queue must visit
 --   first_with f q       the first of q that f is true of, 0 if none
---   each f n            f is true of each number from 1 to n
+--   each f n             f is true of each number from 1 to n
 --   or_else x y          x, or y where x is 0
 --   smallest_failing f n the smallest number from 1 to n that f is not true of, 0 if none
 -- Assumes nothing.

@@ -81,8 +81,8 @@ module _ (z : Size) (l : List ℕ) where
       go true e = refl
       go false e = e
 
-  task-link : (y p : ℕ) → task_link y (on_task (task_meant z y) p) ≡ y
-  task-link y p = go (outside z.tasks y)
+  task_link_lem : (y p : ℕ) → task_link y (on_task (task_meant z y) p) ≡ y
+  task_link_lem y p = go (outside z.tasks y)
     where
       go : (t : Bool) → task_link y (on_task (cond t who.NoTask (who.Task (task_no y))) p) ≡ y
       go true = refl
@@ -104,7 +104,7 @@ module _ (z : Size) (l : List ℕ) where
       go : (s t u : Bool) → eqb (next_task b k) 0 ≡ u → task_link (next_task b k)
           (cond (s && t) (cond u ts.End (on_task (task_meant z (next_task b k)) (task_number b k))) ts.Stray) ≡ next_task b k
       go true true true e = sym (eqb-true (next_task b k) 0 e)
-      go true true false e = task-link (next_task b k) (task_number b k)
+      go true true false e = task_link_lem (next_task b k) (task_number b k)
       go true false u e = refl
       go false t u e = refl
 

@@ -86,12 +86,12 @@ pub case_lowest_rule : checked (with_mptr (link_message sound 1 2) 3 1) ≡ brok
 case_lowest_rule = refl
 
 -- message 1 has a LINK though it is free, and message 3 is queued at the absent task 3
-pub case_smallest-message : checked (with_place (link_message sound 1 2) 3 (QueuedAt (task_no 3))) ≡ broken (R4 (msg_no 1))
-case_smallest-message = refl
+pub case_smallest_message : checked (with_place (link_message sound 1 2) 3 (QueuedAt (task_no 3))) ≡ broken (R4 (msg_no 1))
+case_smallest_message = refl
 
 -- both tasks wait for a message and have one
-pub case_smallest-task : checked (sets (sets sound 1 WAIT) 2 WAIT) ≡ broken (R6 (task_no 1))
-case_smallest-task = refl
+pub case_smallest_task : checked (sets (sets sound 1 WAIT) 2 WAIT) ≡ broken (R6 (task_no 1))
+case_smallest_task = refl
 
 -- R6 is not judged where R5 is broken: task 2 strays into the queue of task 1, which waits for a message
 pub case_r5_before_r6 : checked (sets (link_message sound 3 4) 1 WAIT) ≡ broken (R5 (task_no 2))

@@ -82,14 +82,14 @@ verdict_stays z l =
 
 -- ---- the lowest rule is named, with the smallest record
 -- a rule has a number from 1 to 7
-pub rule-number : (r : Rule) → Numbered 7 (rule_number r)
-rule-number R1 = (lit≤ tt, lit≤ tt)
-rule-number (R2 k) = (lit≤ tt, lit≤ tt)
-rule-number R3 = (lit≤ tt, lit≤ tt)
-rule-number (R4 m) = (lit≤ tt, lit≤ tt)
-rule-number (R5 k) = (lit≤ tt, lit≤ tt)
-rule-number (R6 k) = (lit≤ tt, lit≤ tt)
-rule-number (R7 c) = (lit≤ tt, lit≤ tt)
+pub rule_number_lem : (r : Rule) → Numbered 7 (rule_number r)
+rule_number_lem R1 = (lit≤ tt, lit≤ tt)
+rule_number_lem (R2 k) = (lit≤ tt, lit≤ tt)
+rule_number_lem R3 = (lit≤ tt, lit≤ tt)
+rule_number_lem (R4 m) = (lit≤ tt, lit≤ tt)
+rule_number_lem (R5 k) = (lit≤ tt, lit≤ tt)
+rule_number_lem (R6 k) = (lit≤ tt, lit≤ tt)
+rule_number_lem (R7 c) = (lit≤ tt, lit≤ tt)
 
 module _ (by : Edition) (z : Size) (b : Board) where
   -- the rules as tests, by their numbers
@@ -124,7 +124,7 @@ module _ (by : Edition) (z : Size) (b : Board) where
               let here : BrokenAt by z b (rule_at (rule_number s) (record_number s)) = subst (BrokenAt by z b) (sym (at_rule s)) g in
               inr (i, least (record_number s) (subst (λ (n : ℕ). BrokenAt by z b (rule_at n (record_number s))) (sym i) here))
           step (no i) true k =
-              let holds = each_at rule (rule_number r - 1) h (rule_number s) (rule-number s).0 (leb-true _ _ k) in
+              let holds = each_at rule (rule_number r - 1) h (rule_number s) (rule_number_lem s).0 (leb-true _ _ k) in
               absurd (true≢false (sym holds ∙ broken_fails s g))
           step (no i) false k = let j = leb-false (rule_number s) (rule_number r - 1) k in inl (omega arith)
 
@@ -230,7 +230,7 @@ no_record q i none e = step (ℕ_discrete (number_of q) 2)
 pub rule_only_with_2 : RuleOnlyWith2
 rule_only_with_2 (Accepted v c m) = ((λ e. absurd (omega arith)), (λ n. refl), (λ e. refl), (λ e. refl), λ e. refl)
 rule_only_with_2 (Refused q) = (
-  (λ two. let (r, is) = number_2 q two in subst (λ (x : Refusal). Numbered 7 (told x).rule) (sym is) (rule-number r)),
+  (λ two. let (r, is) = number_2 q two in subst (λ (x : Refusal). Numbered 7 (told x).rule) (sym is) (rule_number_lem r)),
   (λ other. (others_told q other).0),
   no_record q 0 (λ n. refl),
   no_record q 1 (λ n. refl),

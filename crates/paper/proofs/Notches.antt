@@ -57,8 +57,8 @@ case_parked_with_interrupt = refl
 abbrev pub later_runs : Board
 later_runs = with_running sound 2
 
-case_later-runs : passes tiny later_runs ≡ false
-case_later-runs = refl
+case_later_runs : passes tiny later_runs ≡ false
+case_later_runs = refl
 
 -- ---- a notch stricter
 -- SPTR of a held message names a task that is absent

@@ -49,8 +49,8 @@ case_installed_smaller = refl
 
 -- ---- who ran no longer may
 -- it waits: the earlier equal, which is ready, runs
-case_waits-next : answers_to (samplers 0x33 ++ (PostInterrupt 1 ∷ WaitForInterrupt ∷ [])) ≡ sampling ++ (runs 2 ∷ runs 1 ∷ [])
-case_waits-next = refl
+case_waits_next : answers_to (samplers 0x33 ++ (PostInterrupt 1 ∷ WaitForInterrupt ∷ [])) ≡ sampling ++ (runs 2 ∷ runs 1 ∷ [])
+case_waits_next = refl
 
 -- it cancels itself: so too; and installed again it is one among equals, behind the one that runs
 case_cancelled_next :
@@ -63,9 +63,9 @@ case_other_cancelled :
 case_other_cancelled = refl
 
 -- nobody is ready: byte 1 is 0, and 3 is given; then the one that is posted runs
-case_nobody-ready :
+case_nobody_ready :
     answers_to (samplers 0x33 ++ (WaitForInterrupt ∷ Claim ∷ PostInterrupt 2 ∷ [])) ≡ sampling ++ (runs 0 ∷ Refused NobodyRuns ∷ runs 2 ∷ [])
-case_nobody-ready = refl
+case_nobody_ready = refl
 
 case_byte_1_zero : (board_of tiny (after (samplers 0x33 ++ (WaitForInterrupt ∷ [])))).running ≡ 0
 case_byte_1_zero = refl
@@ -82,8 +82,8 @@ mailed = runs 1 ∷ runs 1 ∷ runs 2 ∷ Accepted 1 2 0 ∷ runs 2 ∷ []
 case_equal_due : answers_to (mail ++ (Send 1 1 ∷ WaitForInterrupt ∷ [])) ≡ mailed ++ (runs 2 ∷ Accepted 0 1 1 ∷ [])
 case_equal_due = refl
 
-case_equal_due-passes : (check tiny (after (mail ++ (Send 1 1 ∷ [])))).answer ≡ runs 2
-case_equal_due-passes = refl
+case_equal_due_passes : (check tiny (after (mail ++ (Send 1 1 ∷ [])))).answer ≡ runs 2
+case_equal_due_passes = refl
 
 -- a task that is due a message is ready: it does not yield to an earlier equal
 case_due_goes_on :

@@ -50,8 +50,8 @@ case_lifo_bit :
 case_lifo_bit = refl
 
 -- a woken task gets the more urgent message that came before it ran
-case_woken-waits : answers_to (sleeper ++ (Send 1 2 ∷ Send 2 2 ∷ WaitForInterrupt ∷ [])) ≡ asleep ++ (ok ∷ ok ∷ Accepted 0 2 2 ∷ [])
-case_woken-waits = refl
+case_woken_waits : answers_to (sleeper ++ (Send 1 2 ∷ Send 2 2 ∷ WaitForInterrupt ∷ [])) ≡ asleep ++ (ok ∷ ok ∷ Accepted 0 2 2 ∷ [])
+case_woken_waits = refl
 
 -- a woken task whose only message is cancelled waits again
 case_cancelled_sleeps :
@@ -59,8 +59,8 @@ case_cancelled_sleeps :
 case_cancelled_sleeps = refl
 
 -- forward leaves RPTR: a later resend goes where the message was sent first
-case_forward-rptr : queue_after (sleeper ++ (Send 1 1 ∷ Receive ∷ Forward 1 2 ∷ CancelMessage 1 2 ∷ Resend 1 ∷ [])) 1 ≡ 1 ∷ []
-case_forward-rptr = refl
+case_forward_rptr : queue_after (sleeper ++ (Send 1 1 ∷ Receive ∷ Forward 1 2 ∷ CancelMessage 1 2 ∷ Resend 1 ∷ [])) 1 ≡ 1 ∷ []
+case_forward_rptr = refl
 
 -- task 1 runs; tasks 1 and 2 with the queues 2, 4 and 3, then what LINK of message 3 says; message 4 is queued at task 1
 abbrev pub two_queues : ℕ → List ℕ

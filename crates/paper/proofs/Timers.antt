@@ -34,21 +34,21 @@ case_on_timer :
 case_on_timer = refl
 
 -- with a LINK
-case_on_timer-link : passes tiny (on_timer 0x15 2 0 2) ≡ false
-case_on_timer-link = refl
+case_on_timer_link : passes tiny (on_timer 0x15 2 0 2) ≡ false
+case_on_timer_link = refl
 
 -- SPTR absent, 0 and beyond the board
-case_on_timer-sender :
+case_on_timer_sender :
     map (passes tiny) (on_timer 0x15 0 0 3 ∷ on_timer 0x15 0 0 0 ∷ on_timer 0x15 0 0 4 ∷ []) ≡ false ∷ false ∷ false ∷ []
-case_on_timer-sender = refl
+case_on_timer_sender = refl
 
 -- PRIO of priority 127
-case_on_timer-prio : map (passes tiny) (on_timer 0xFE 0 0 2 ∷ on_timer 0xFF 0 0 2 ∷ []) ≡ false ∷ false ∷ []
-case_on_timer-prio = refl
+case_on_timer_prio : map (passes tiny) (on_timer 0xFE 0 0 2 ∷ on_timer 0xFF 0 0 2 ∷ []) ≡ false ∷ false ∷ []
+case_on_timer_prio = refl
 
 -- RPTR beyond the board
-case_on_timer-receiver : passes tiny (on_timer 0x15 0 4 2) ≡ false
-case_on_timer-receiver = refl
+case_on_timer_receiver : passes tiny (on_timer 0x15 0 4 2) ≡ false
+case_on_timer_receiver = refl
 
 -- ---- calls
 abbrev answer : Board → Call → Answer

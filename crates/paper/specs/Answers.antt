@@ -1,7 +1,7 @@
 -- Document 01, 'Numbers handed back', and document 02, Ask 1: what each answer says. A reader must believe this file.
 --   rule_number r    the number of a broken rule, 1 to 7; record_number r the task or message that it names, 0 for R1 and R3, byte 1 for R7
---   told q          the number of a refusal, and with 2 the rule and the record, else zeros; number_of q its number alone
---   handed a        the papers' numbers and values of an answer: 0 and three values if accepted, else what is told and zeros
+--   told q           the number of a refusal, and with 2 the rule and the record, else zeros; number_of q its number alone
+--   handed a         the papers' numbers and values of an answer: 0 and three values if accepted, else what is told and zeros
 -- Assumes nothing.
 use Rattle.std.specs.Prelude.{ℕ}
 use Rattle.paper.specs.declared.answer.Rule.{Rule}

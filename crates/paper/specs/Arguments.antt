@@ -1,7 +1,7 @@
 -- A call as its kind, its words and its bytes, and back: what C hands over, and what a trace of calls is made of. A reader must believe
 -- this file.
 --   calls_of a b c s p    the call of each kind, 1 to 19 in the paper's order, made of the words a b c and the bytes s p; what a call does
---                        not take is ignored
+--                         not take is ignored
 --   call_of kind words bytes   the one of this kind; of no kind it is find, of the name 0
 --   arguments_of call     its kind, its words, and its bytes, STAT and PRIO: they tell the call
 -- Assumes nothing.

@@ -1,8 +1,8 @@
 -- The changes that document 01's effects are made of: one field, one bit, one queue. A reader must believe this file.
 -- A board with one record or place written keeps all others (Rattle.board, Board), so every other byte stays.
---   sets b k BIT        task k with the bit set, clears b k BIT with it cleared
+--   sets b k BIT         task k with the bit set, clears b k BIT with it cleared
 --   with_queue b r q     the links from MPTR of r list q; with_order b q the links from byte 0 list q
---   hold b c m          c holds m, with LINK 0
+--   hold b c m           c holds m, with LINK 0
 --   take_first z b c     c holds the first message of its queue; nothing where it is empty
 -- Assumes nothing.
 use Rattle.std.specs.Prelude.{List, ℕ}

@@ -2,9 +2,9 @@
 -- which stay as they are whatever later requests make of the others, and the conversion of a board that keeps them. A reader must believe
 -- this file.
 --   old_rule1 b         R1 over bytes 1 to 3; old_rule4_at z b m R4 without the timer; old_rule7 z b R7 of the task that ran then. R2, R3, R5
---                      and R6 have not changed since (Rules)
+--                       and R6 have not changed since (Rules)
 --   old_passes z b      all of them; old_broken z b the lowest that is broken, and its record
---   convert z l        byte 1 becomes the task that ran by the old rules, and nothing else; a board that breaks them is refused as it was
+--   convert z l         byte 1 becomes the task that ran by the old rules, and nothing else; a board that breaks them is refused as it was
 -- Assumes nothing.
 use Rattle.std.specs.Prelude.{Bool, not, ◌&&◌, List, [], ◌∷◌, ℕ, eqb, set}
 use Rattle.board.specs.declared.numbers.Size.{Size}

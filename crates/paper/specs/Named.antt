@@ -2,7 +2,7 @@
 --   unless t r s       the rule r, unless t: then s
 --   broken2to6 z b r4  of a board that breaks one of R2 to R6, R4 being r4 at each message: the lowest that is broken, with the smallest
 --                      task or message that breaks it
---   broken_rule z b     of a board that breaks a rule: the lowest that is broken, with its record. So R6 and R7 are named only where R1 to
+--   broken_rule z b    of a board that breaks a rule: the lowest that is broken, with its record. So R6 and R7 are named only where R1 to
 --                      R5 hold
 -- Assumes nothing.
 use Rattle.std.specs.Prelude.{Bool, cond, ℕ}

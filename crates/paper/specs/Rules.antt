@@ -2,11 +2,11 @@
 -- and who runs. A reader must believe this file.
 --   present b k        task k is there
 --   order z b          the task queue, queue z b k the queue of task k: what the links visit
---   empty_queue b k     no message is queued at task k: MPTR is the first queued message, 0 for none
---   may_run z b c       the task c is ready, and no ready task has a smaller priority number
---   first_ready z b     the first ready task in queue order, 0 if none
---   runs_next z b       who runs once a call has had its effect: the task that ran stays if it may run, else it is the first ready one
---   rule1 .. rule7     the rules, R1 and R7 as document 02, Ask 3, has them; ruleNAt at one record
+--   empty_queue b k    no message is queued at task k: MPTR is the first queued message, 0 for none
+--   may_run z b c      the task c is ready, and no ready task has a smaller priority number
+--   first_ready z b    the first ready task in queue order, 0 if none
+--   runs_next z b      who runs once a call has had its effect: the task that ran stays if it may run, else it is the first ready one
+--   rule1 .. rule7     the rules, R1 and R7 as document 02, Ask 3, has them; ruleN_at at one record
 --   rules2to6 z b r4   those between, R4 being r4 at each message; passes z b all of them
 -- Assumes nothing.
 use Rattle.std.specs.Prelude.{Bool, true, false, cond, not, ◌&&◌, ◌||◌, List, [], ◌∷◌, ℕ, eqb, leb, ltb}

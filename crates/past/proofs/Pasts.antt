@@ -41,8 +41,8 @@ case_visited_again = refl
 
 -- ---- which they are
 -- none for the fresh board
-case_past-fresh : past tiny (board_of tiny (blank tiny)) ≡ []
-case_past-fresh = refl
+case_past_fresh : past tiny (board_of tiny (blank tiny)) ≡ []
+case_past_fresh = refl
 
 case_past_two_queues :
     past tiny (board_of tiny (two_queues 0))
@@ -55,10 +55,10 @@ case_past_two_queues :
     ∷ PostInterrupt 1 ∷ PostInterrupt 2 ∷ Forward 2 1 ∷ Forward 4 1 ∷ Forward 3 2 ∷ []
 case_past_two_queues = refl
 
-case_past-visited :
+case_past_visited :
     past tiny (board_of tiny visited)
     ≡ Install 1 0x01 0x31 0 0 ∷ WaitForInterrupt ∷ Install 2 0x01 0x33 0 0 ∷ WaitForInterrupt
     ∷ Install 3 0x01 0xFD 0 0 ∷ WaitForInterrupt
     ∷ PostInterrupt 1 ∷ Claim ∷ Send 1 3 ∷ CancelMessage 1 3 ∷ Prepare 1 0 0x11 2 ∷ WaitForInterrupt
     ∷ PostInterrupt 3 ∷ CancelTask 3 ∷ PostInterrupt 2 ∷ ReceiveAndWait ∷ PostInterrupt 1 ∷ PostInterrupt 1 ∷ []
-case_past-visited = refl
+case_past_visited = refl

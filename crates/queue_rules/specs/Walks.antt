@@ -2,13 +2,13 @@
 -- R5 is proved (proofs/Lists), so no reader needs to believe it.
 --   went next number good .. x low     one link followed, where good says which records belong to the queue
 --   visited next number good n x low s a walk of at most n links from x that saw s before and met the priority number low last
---   counted f n                        how many numbers from 1 to n pass f
+--   counted f n                         how many numbers from 1 to n pass f
 --   message_turned z b k m low          one link of task k's queue; one that leads beyond the board leads astray
 --   queue_walked b n k                  the walk of task k's queue, of at most n links
---   walked b most n                    the walks of the queues of tasks 1 to n, one after the other, of at most so many links together
---   saw w n                            a walk that ended and saw n
---   Lengths b n t                      of the messages from 1 to n so many are queued at each task below 256, by its number in the table t
---   breaking z f                       the smallest task that f is not true of, if any
+--   walked b most n                     the walks of the queues of tasks 1 to n, one after the other, of at most so many links together
+--   saw w n                             a walk that ended and saw n
+--   Lengths b n t                       of the messages from 1 to n so many are queued at each task below 256, by its number in the table t
+--   breaking z f                        the smallest task that f is not true of, if any
 -- Assumes nothing.
 use Rattle.std.specs.Prelude.{◌≡◌, Bool, false, cond, ◌&&◌, List, ℕ, zero, suc, ◌+◌, ◌-◌, ◌<◌, get_or, eqb, leb}
 use Rattle.links.specs.Queue.{smallest_failing}

@@ -45,8 +45,8 @@ case_unmade_even_in_queue = unmade even_in_queue refl
 case_unmade_parked_with_interrupt : Unmade parked_with_interrupt
 case_unmade_parked_with_interrupt = unmade parked_with_interrupt refl
 
-case_unmade_later-runs : Unmade later_runs
-case_unmade_later-runs = unmade later_runs refl
+case_unmade_later_runs : Unmade later_runs
+case_unmade_later_runs = unmade later_runs refl
 
 -- ---- boards that calls make
 abbrev Made : Board → Type 0
@@ -68,14 +68,14 @@ made b n e p t =
       λ m. refuted _ (which_none Free is_on_timer (board_of tiny (bytes_of b)).places refl t m),
     )
 
-case_made-sender_absent : Made sender_absent
-case_made-sender_absent = made sender_absent refl refl refl refl
+case_made_sender_absent : Made sender_absent
+case_made_sender_absent = made sender_absent refl refl refl refl
 
 case_made_even_held : Made even_held
 case_made_even_held = made even_held refl refl refl refl
 
-case_made-parked_with_queue : Made parked_with_queue
-case_made-parked_with_queue = made parked_with_queue refl refl refl refl
+case_made_parked_with_queue : Made parked_with_queue
+case_made_parked_with_queue = made parked_with_queue refl refl refl refl
 
-case_made-earlier_equal_due : Made earlier_equal_due
-case_made-earlier_equal_due = made earlier_equal_due refl refl refl refl
+case_made_earlier_equal_due : Made earlier_equal_due
+case_made_earlier_equal_due = made earlier_equal_due refl refl refl refl

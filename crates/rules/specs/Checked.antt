@@ -2,12 +2,12 @@
 --   good_by e z ..      R4 of a message by the rules of that edition, rule4_of e z b m of the message m
 --   messages_seen e z b the first message that breaks R4, if any; else how many are queued. messages_if: where R4 is kept or not
 --   tasks_seen z b      the first task whose record breaks R2, if any; else the first that breaks R6, and how many are present. tasks_if:
---                      where R2 is kept or not
---   earlier a b        a, or b where a is none
+--                       where R2 is kept or not
+--   earlier a b         a, or b where a is none
 --   between_of e z b    R2 to R6: they hold and this is the first ready task, or the one that is named
 --   leads_with b c f    the task c is ready, of no greater priority number than f, and due no message
 --   ran_of z b f        R7 where f is the first ready task, if any: it passes with the task in byte 1, or is broken
---   old_ran_of b f       R7 of saved boards, where f ran; ran_by one of the two
+--   old_ran_of b f      R7 of saved boards, where f ran; ran_by one of the two
 --   rule1_of e c zeros  R1 of byte 1 and of bytes 2 and 3
 --   checked_of e z b    passes with the running task, or broken with the rule that is named, by the rules of that edition
 -- Assumes nothing.

@@ -1,6 +1,6 @@
 -- What C is told of a call that it asked for by its kind, and the bytes it is left with. A reader of the exports must believe this file.
---   word_for l asked      the packed answer of document 01's effect on l; 255 for no call, whatever the board
---   left_for l asked      the bytes of that effect; for no call, l
+--   word_for l asked     the packed answer of document 01's effect on l; 255 for no call, whatever the board
+--   left_for l asked     the bytes of that effect; for no call, l
 --   TellsTimed w l s o   the word w is the packed answer of the outcome o of a start or tick, and l and s are the bytes that it leaves
 -- Assumes nothing.
 use Rattle.std.specs.Prelude.{◌≡◌, List, ℕ}

@@ -3,7 +3,7 @@
 --   Store B                what is asked of a store: LINK read and written, and so the start of the queue
 --   behind s n b prev x    b with x behind prev, or first where prev is no number up to n
 --   listing s b q          b with the start and all links so that they list q
---   spot_in goes q          the last of q before the first that goes is true of, and that one
+--   spot_in goes q         the last of q before the first that goes is true of, and that one
 -- Assumes nothing.
 use mathlib.Core.Path.{◌≡◌, refl, sym, ap, ap₂, ◌∙◌, subst}
 use mathlib.Core.Logic.{◌≢◌}

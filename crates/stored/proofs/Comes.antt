@@ -17,7 +17,7 @@ use Rattle.board.specs.Places.{place_bytes}
 use Rattle.board.specs.Board.{Board, total, board_of, task_area, message_area, place_area, with_first, with_running, with_task, with_message, with_place}
 use Rattle.board.specs.Writes.{put_first, put_running, put_task, put_message, put_place}
 use Rattle.board.proofs.Pieces.{length_put_in}
-use Rattle.board.proofs.Written.{board-put_first, board-put-running, board-put-task, board-put-message, board-put-free, board-put-held, board-put-queued, board-put-timer}
+use Rattle.board.proofs.Written.{board-put-first, board-put-running, board-put-task, board-put-message, board-put-free, board-put-held, board-put-queued, board-put-timer}
 use Rattle.paper.specs.Changes.{hold}
 use Rattle.stores.specs.Changes as changes
 
@@ -47,7 +47,7 @@ module _ (z : Size) (l : List ℕ) (e : length l ≡ total z) where
   -- ---- byte 0, which has room for any task number; one record
   pub comes_first : (k : ℕ) → k < 256 → Comes z (put_first l (k % 256)) (with_first (board_of z l) k)
   comes_first k h =
-      (length-set l 0 (k % 256) ∙ e, board-put_first z l (k % 256) (omega arith) ∙ ap (with_first (board_of z l)) (mod-eq_of_lt h))
+      (length-set l 0 (k % 256) ∙ e, board-put-first z l (k % 256) (omega arith) ∙ ap (with_first (board_of z l)) (mod-eq_of_lt h))
 
   -- byte 1, likewise
   pub comes_running : (c : ℕ) → c < 256 → Comes z (put_running l (c % 256)) (with_running (board_of z l) c)

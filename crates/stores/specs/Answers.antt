@@ -1,13 +1,13 @@
 -- What inner steps answer, by the paper's tables of refusals. Contracts of code cite this file; no reader needs to believe it.
 --   held_of z b c w         c and the message w, or the lowest of 3, 4 and 5 that applies
 --   present_meant z b w     the task w, unless 6 applies
---   Stored                 what a body comes to: its value, the task other than the caller whose status may have changed, and the bytes
+--   Stored                  what a body comes to: its value, the task other than the caller whose status may have changed, and the bytes
 --   with_nobody d           the answer to a body where nobody is dispatched
---   Runner z l c           c is the task that byte 1 of the bytes l names, if any
---   Runs z l c             and they hold a whole board: what a body asks for
+--   Runner z l c            c is the task that byte 1 of the bytes l names, if any
+--   Runs z l c              and they hold a whole board: what a body asks for
 --   body_by v d             a body with this verdict: done, or stopped
 --   bytes_by v l after      the bytes with this verdict: those afterwards, or those before
---   Reply, Makes           what an inner step answers and leaves; a contract's one clause
+--   Reply, Makes            what an inner step answers and leaves; a contract's one clause
 -- Assumes nothing.
 use Rattle.std.specs.Prelude.{◌≡◌, cond, not, ◌||◌, List, [], ◌∷◌, ℕ, ◌≤◌, length}
 use Rattle.board.specs.declared.numbers.Size.{Size}

@@ -5,7 +5,7 @@
 --   passing z l m w           resend, forward and return on a held message: 6 and 7, else m is placed at the task w as it is
 --   waiting z c d l           the wait of a wait form behind the body d
 --   dispatch z v l c          dispatch of a call whose value is v on the bytes l, c running
---   runs_then z c k l          who runs after a body, c having run before it, and k being the one whose status it may have changed
+--   runs_then z c k l         who runs after a body, c having run before it, and k being the one whose status it may have changed
 --   finish z c d l            that one is written into byte 1, and dispatched, behind the body d
 --   called z l call           the whole call
 -- Assumes nothing.

@@ -1,8 +1,8 @@
 -- The changes that effects are made of (paper, Changes), as stores on the bytes l. Contracts of code cite this file; no reader needs to
 -- believe it.
 --   sets z l k BIT, clears z l k BIT     a bit of task k's STAT set, cleared
---   with_mptr z l k m                     MPTR of task k is m
---   link_task z l k next                  LINK of task k is next; link_message z l m next that of message m
+--   with_mptr z l k m                    MPTR of task k is m
+--   link_task z l k next                 LINK of task k is next; link_message z l m next that of message m
 --   hold z l c m                         task c holds message m, with LINK 0
 -- Assumes nothing.
 use Rattle.std.specs.Prelude.{List, ℕ}

@@ -3,7 +3,7 @@
 --   message_behind z b m          the message that LINK of m names, 0 for none; task_behind z b k likewise
 --   spot_for z l r f p            where a message of priority number p goes in the queue of r (f: FIFO)
 --   spot_of z l r m               where message m stands in the queue of r; spot_for_task, spot_of_task likewise
---   behind z l r prev x          what stands behind prev in the queue of r is x: its first where prev is none; so behind_task
+--   behind z l r prev x           what stands behind prev in the queue of r is x: its first where prev is none; so behind_task
 --   queue_into z l m u r          message m becomes u, bit 0 of PRIO set, and goes into the queue of r; queue_out z l m r it is taken out
 --   order_into z l k t            task k becomes t and goes into the task queue; order_out z l k it is taken out
 -- Assumes nothing.

@@ -10,7 +10,7 @@
 --   BlocksOnce z o         where the outcome o is accepted, every block is free, held by one present task, in one queue once, or on the
 --                          timer in one entry once
 --   EveryBlockOnce         so it is after a start or tick on whatever bytes
---   due_queues              the queues once the messages that are due have gone back, each placed at its SPTR task by its priority and
+--   due_queues             the queues once the messages that are due have gone back, each placed at its SPTR task by its priority and
 --                          queue type, in entry order
 --   DueInEntryOrder        those are the queues that a tick's dispatch finds
 --   GoesBack z o r m       the outcome o of a tick has the message m back at task r: queued there, or handed to it by this very dispatch

@@ -1,10 +1,10 @@
 -- The timer buffer: document 02, Ask 5. A reader must believe this file.
---   Timer              the word for now, the tick counter, and the entries, sixteen of them
+--   Timer               the word for now, the tick counter, and the entries, sixteen of them
 --   timer_length        the bytes of a buffer, 50
 --   timer_of s          the bytes s read once as a timer; timer_bytes t the timer written back
 --   no_entry            three zero bytes; is_used e: its message byte isn't 0
 --   is_due at e         the entry is used, and its due word is at: a free entry is never due
---   entry t i          entry i, counted from 1, a free one for 0 and numbers beyond; with_entry t i e the timer with that entry so
+--   entry t i           entry i, counted from 1, a free one for 0 and numbers beyond; with_entry t i e the timer with that entry so
 -- Assumes nothing.
 use Rattle.std.specs.Prelude.{Bool, not, ◌&&◌, List, ◌∷◌, ◌++◌, map, ℕ, eqb, get_or}
 use Rattle.board.specs.Records.{word_at, word_bytes}

@@ -1,6 +1,6 @@
 -- A tick, in plain variables, in the order in which the code meets it: one message goes back, the loop over the entries, and now.
 --   freed_to at i es    the entries, the first i of them freed where they are due
---   Going ..           the loop has come to entry i
+--   Going ..            the loop has come to entry i
 -- Assumes nothing.
 use Rattle.std.proofs.Common.{◌≡◌, ℕ, zero, suc, ◌+◌, ◌<◌, ◌≤◌, Bool, true, false, cond, ◌||◌, List, [], ◌∷◌, map, length, get_or, drop, set, sym, refl, ap, ◌∙◌, subst, arith, drop_of_length-le, drop-cons}
 use mathlib.Core.Bool.{or-true, or-false}

@@ -1,13 +1,13 @@
 -- What code stores for start and for tick, on the bytes l of a board and s of a timer buffer. Contracts of code cite this file;
 -- that it comes to the definitions of start and tick is proved (timer_stored), so no reader needs to believe it.
---   Reply, Makes            what an inner step answers and leaves of both buffers; a contract's one clause
+--   Reply, Makes             what an inner step answers and leaves of both buffers; a contract's one clause
 --   starting_held, starting  start behind 18: of a held message m, and of any
 --   start_called             and dispatch behind it
 --   given_back z l m         message m placed at its SPTR task; nothing where one of the two isn't on the board
 --   returned_bytes z at es l the board once each message that is due in the entries es has gone back, in entry order
---   any_due at es            one of the entries is due
+--   any_due at es           one of the entries is due
 --   returning, ticking      a tick's work on both buffers, whether there was any, and whoever may then outrank who ran
---   tick_called              and dispatch behind it
+--   tick_called             and dispatch behind it
 -- Assumes nothing.
 use Rattle.std.specs.Prelude.{◌≡◌, ℕ, ◌+◌, ◌%◌, Bool, false, cond, ◌||◌, List, [], ◌∷◌, map}
 use Rattle.board.specs.declared.numbers.Size.{Size}

@@ -67,8 +67,8 @@ case_lowest_entry :
 case_lowest_entry = refl
 
 -- a start that is refused, of a message that is not held, takes no entry
-case_refused-start : (after 0 (Started 3 5 ∷ [])).timer ≡ buffer 0 []
-case_refused-start = refl
+case_refused_start : (after 0 (Started 3 5 ∷ [])).timer ≡ buffer 0 []
+case_refused_start = refl
 
 -- ---- tick: what is due
 -- now runs on past 65,535 to 0, and what is due at 0 comes back then
@@ -86,8 +86,8 @@ case_not_early = refl
 case_not_past : (after 1 (Started 1 65535 ∷ Ticked ∷ [])).board ≡ station 0 0 0 128 1
 case_not_past = refl
 
-case_not_past-entry : (after 1 (Started 1 65535 ∷ Ticked ∷ [])).timer ≡ buffer 2 (fires 1 0 ∷ [])
-case_not_past-entry = refl
+case_not_past_entry : (after 1 (Started 1 65535 ∷ Ticked ∷ [])).timer ≡ buffer 2 (fires 1 0 ∷ [])
+case_not_past_entry = refl
 
 -- a free entry does nothing when now becomes 0
 case_free_at_0 : tick tiny holds (buffer 65535 []) ≡ record { answer = ok; board = holds; timer = buffer 0 [] }
@@ -106,11 +106,11 @@ case_due_now = refl
 
 -- ---- tick: where it goes
 -- two that are due at once stand in the queue in entry order, and both entries are free again
-case_entry-order : (after 0 (Started 2 1 ∷ Started 1 1 ∷ Ticked ∷ [])).board ≡ station 2 0 1 65 65
-case_entry-order = refl
+case_entry_order : (after 0 (Started 2 1 ∷ Started 1 1 ∷ Ticked ∷ [])).board ≡ station 2 0 1 65 65
+case_entry_order = refl
 
-case_entries-freed : (after 0 (Started 2 1 ∷ Started 1 1 ∷ Ticked ∷ [])).timer ≡ buffer 1 []
-case_entries-freed = refl
+case_entries_freed : (after 0 (Started 2 1 ∷ Started 1 1 ∷ Ticked ∷ [])).timer ≡ buffer 1 []
+case_entries_freed = refl
 
 -- one that is due leaves the entry of another
 case_other_entry : (after 0 (Started 2 1 ∷ Started 1 2 ∷ Ticked ∷ [])).timer ≡ buffer 1 (no_entry ∷ fires 1 2 ∷ [])

@@ -52,10 +52,10 @@ case_other_length :
 case_other_length = refl
 
 -- a fresh board: now may be what it will, and no entry may be in use
-case_fresh-board :
+case_fresh_board :
     map (λ s. (tick tiny (blank tiny) s).answer) (buffer 700 [] ∷ buffer 0 (fires 1 5 ∷ []) ∷ [])
     ≡ Accepted 0 0 0 ∷ Refused BadTimer ∷ []
-case_fresh-board = refl
+case_fresh_board = refl
 
 -- ---- in the paper's order
 -- 1 and 2 before 18, and 18 before the rest: no buffer at all, with no board, with one that breaks R1, with one where nobody runs

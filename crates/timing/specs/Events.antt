@@ -1,9 +1,9 @@
 -- A history of calls, starts and ticks, made one after another on the bytes of a board and of one timer buffer, refused ones among them.
 -- A reader must believe this file.
---   Event                  a call, a start or a tick
---   happen z l s event     the answer, and all bytes of both buffers afterwards; a call is lent no buffer
+--   Event                   a call, a start or a tick
+--   happen z l s event      the answer, and all bytes of both buffers afterwards; a call is lent no buffer
 --   run_all z l s events    the answer of each event, and the bytes of both after the last
---   ticks events           how many of them are ticks
+--   ticks events            how many of them are ticks
 --   Happened l s events as d t   a program was handed the answers as for these events and left d of l and t of s, each event as the
 --                          contract of the step, of start or of tick says
 -- Assumes nothing.

@@ -1,8 +1,8 @@
 -- Document 02, Ask 5: start and tick as functions of the bytes of a board and of a timer buffer. A reader must believe this file.
---   used l                the messages in these entries, in entry order
+--   used l                 the messages in these entries, in entry order
 --   good_timer b s         the bytes s are a timer buffer for the board b: the contrary of 18
---   no16 .. no18          the refusals that start and tick alone give; start_row, tick_row their refusals, in the paper's order
---   wrapped n             the sixteen-bit word: n, less 65,536 where that is beyond 65,535
+--   no16 .. no18           the refusals that start and tick alone give; start_row, tick_row their refusals, in the paper's order
+--   wrapped n              the sixteen-bit word: n, less 65,536 where that is beyond 65,535
 --   started, started_timer the board and the timer after a start; returned, ticked those after a tick, before dispatch
 --   Timed                 an answer and all bytes of both buffers
 --   start z l s m delay, tick z l s   start and tick on a board of the bytes l, with the timer buffer s
