@@ -6,10 +6,10 @@ use mathlib.Core.List.{List}
 use Prim.Native.Nat.{ℕ, ◌+◌, ◌≤◌, ◌<◌}
 use native.Mathlib.Omega.{arith}
 use borrow.Author.Tests.{not-true}
+use Rattle.std.specs.Prelude.{Option, None}
 use Rattle.links.proofs.Bools.{both}
 use Rattle.board.specs.declared.numbers.Size.{Size}
-use Rattle.board.specs.declared.numbers.MessageMeant.{MessageMeant}
-use Rattle.board.specs.declared.numbers.MessageMeant.TheVariants.{NoMessage}
+use Rattle.board.specs.declared.numbers.MsgNo.{MsgNo}
 use Rattle.board.specs.declared.places.Place.{Place}
 use Rattle.board.specs.declared.places.Place.TheVariants.{Free, HeldBy, QueuedAt, OnTimer, Nowhere}
 use Rattle.board.specs.Numbers.{message_meant}
@@ -56,13 +56,13 @@ module _ (z : Size) (l : List ℕ) where
         (behind_one m (m + 1) (omega arith) (omega arith) one.0 inv)))
 
     -- there is no other: none is free
-    pub free_none : z.messages ≤ m → NoMessage ≡ message_meant z (lowest_free b)
+    pub free_none : z.messages ≤ m → None ≡ message_meant z (lowest_free b)
     free_none h = ap (message_meant z) (found_none (λ x. x) is_free z l m inv h)
 
     -- p is the place of the next one
     module _ (h : m < z.messages) {p : Place} (e : p ≡ place b (m + 1)) where
       -- it is free
-      pub free_here : p ≡ Free → {x : MessageMeant} → x ≡ message_meant z (m + 1) → x ≡ message_meant z (lowest_free b)
+      pub free_here : p ≡ Free → {x : Option MsgNo} → x ≡ message_meant z (m + 1) → x ≡ message_meant z (lowest_free b)
       free_here f ex = ex ∙ ap (message_meant z) (found_here (λ x. x) is_free z l m inv h (ap is_free (sym e ∙ f)))
 
       -- it is not

@@ -2,98 +2,79 @@
 // then writes.
 #![tactic(auto)]
 
-ghost use Rattle.std.specs.Prelude.{◌≡◌, ◌≤◌, length};
+ghost use Rattle.std.specs.Prelude.{◌≡◌};
 ghost use Rattle.board.specs.Numbers.{message_meant};
-ghost use Rattle.board.specs.Board.{board_of, total};
+ghost use Rattle.lent.specs.Lent.{board};
 ghost use Rattle.paper.specs.declared.call.Call.TheVariants as calls;
 ghost use Rattle.paper.specs.Effects.{lowest_free};
-ghost use Rattle.stores.specs.Answers.{Runs, Makes};
+ghost use Rattle.stores.specs.Answers.{Runner, Made};
 ghost use Rattle.stores.specs.Calls.{stepping};
 
-use board::numbers::{MessageMeant, MsgNo, Size, TaskMeant};
+use board::numbers::{MsgNo, Number, TaskNo};
 use board::places::Place;
 use board::records::Message;
 use four_places::none_free;
 use inner::refusals::held;
 use lent::by_word::place_meant;
-use lent::bytes::{message_at, put_message, put_place};
+use lent::bytes::{Lent, LentMut};
 use paper::answer::Refusal;
-use stores::{Body, Held};
+use stores::{Body, Done, Held};
 
 // The lowest-numbered free message, if any. Places are tested in groups of four, and one by one only where a group has a free one, or where
 // the board has no four more.
-pub fn lowest_free(z: Size, l: &[u8]) -> MessageMeant
-    requires { total z ≤ length l.now }
-    ensures { result ≡ message_meant z (lowest_free (board_of z l.now)) }
+pub fn lowest_free(l: Lent<'_>) -> Option<MsgNo>
+    ensures { result ≡ message_meant l.entry.size (lowest_free (board l.entry)) }
 {
-    let most = z.messages;
-    let mut m: u16 = 0;
-    while none_free(z, l, m) {
-        m += 4;
+    let mut used: u16 = 0;
+    while none_free(l, used) {
+        used += 4;
     }
-    while m < most {
-        m += 1;
-        let p = place_meant(z, l, m);
-        if let Place::Free = p {
-            return MsgNo::meant(z, m);
+    for before in used..l.size.messages {
+        let m = before + 1;
+        if let Place::Free = place_meant(l, m) {
+            return MsgNo::meant(l.size, m);
         }
     }
-    MessageMeant::NoMessage
+    None
 }
 
-pub fn claim(z: Size, l: &mut [u8], c: TaskMeant) -> Body
-    requires { Runs z l.old c }
-    ensures { Makes result l.new (stepping z l.old calls.Claim) }
+#[tactic(auto, using(crate::proofs::Claiming::none_is_free))]
+pub fn claim(l: &mut LentMut<'_>, c: Option<TaskNo>) -> Body
+    requires { Runner l.old.size l.old.bytes.now c }
+    ensures { Made result l.old l.new (stepping l.old.size l.old.bytes.now calls.Claim) }
 {
-    let TaskMeant::Task(k) = c else {
-        return Body::Stopped(Refusal::NobodyRuns);
-    };
-    let free = lowest_free(z, l);
-    let MessageMeant::Message(m) = free else {
-        return Body::Stopped(Refusal::NoneFree);
-    };
-    put_place(z, l, m, Place::HeldBy(k));
-    Body::Done {
-        value: m.number(),
-        stirred: TaskMeant::NoTask,
-    }
+    let c = c.ok_or(Refusal::NobodyRuns)?;
+    let m = lowest_free(l.read()).ok_or(Refusal::NoneFree)?;
+    l.put_place(m, Place::HeldBy(c));
+    Ok(Done::rests(m.number()))
 }
 
-pub fn release(z: Size, l: &mut [u8], c: TaskMeant, m: u16) -> Body
-    requires { Runs z l.old c }
-    ensures { Makes result l.new (stepping z l.old (calls.Release m)) }
+pub fn release(l: &mut LentMut<'_>, c: Option<TaskNo>, m: u16) -> Body
+    requires { Runner l.old.size l.old.bytes.now c }
+    ensures { Made result l.old l.new (stepping l.old.size l.old.bytes.now (calls.Release m)) }
 {
-    let h = held(z, l, c, m);
-    match h {
-        Held::Not(q) => Body::Stopped(q),
-        Held::By { c: _, m: one } => {
-            put_message(z, l, one, Message::none());
-            put_place(z, l, one, Place::Free);
-            Body::Done {
-                value: 0,
-                stirred: TaskMeant::NoTask,
-            }
-        }
-    }
+    let Held { c: _, m } = held(l.read(), c, m)?;
+    l.put_message(m, Message::none());
+    l.put_place(m, Place::Free);
+    Ok(Done::rests(0))
 }
 
-pub fn prepare(z: Size, l: &mut [u8], c: TaskMeant, m: u16, stat: u8, prio: u8, sptr: u16) -> Body
-    requires { Runs z l.old c }
-    ensures { Makes result l.new (stepping z l.old (calls.Prepare m stat prio sptr)) }
+pub fn prepare(
+    l: &mut LentMut<'_>,
+    c: Option<TaskNo>,
+    m: u16,
+    stat: u8,
+    prio: u8,
+    sptr: u16,
+) -> Body
+    requires { Runner l.old.size l.old.bytes.now c }
+    ensures { Made result l.old l.new (stepping l.old.size l.old.bytes.now (calls.Prepare m stat prio sptr)) }
 {
-    let h = held(z, l, c, m);
-    match h {
-        Held::Not(q) => Body::Stopped(q),
-        Held::By { c: _, m: one } => {
-            if z.tasks < sptr {
-                return Body::Stopped(Refusal::BadSender);
-            }
-            let u = message_at(z, l, one);
-            put_message(z, l, one, u.with_stat(stat).with_prio(prio).with_sptr(sptr));
-            Body::Done {
-                value: 0,
-                stirred: TaskMeant::NoTask,
-            }
-        }
+    let Held { c: _, m } = held(l.read(), c, m)?;
+    if l.size.tasks < sptr {
+        return Err(Refusal::BadSender);
     }
+    let u = l.read().message(m);
+    l.put_message(m, u.with_stat(stat).with_prio(prio).with_sptr(sptr));
+    Ok(Done::rests(0))
 }

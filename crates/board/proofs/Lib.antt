@@ -5,4 +5,3 @@ pub mod Pieces
 pub mod Codec
 pub mod Written
 pub mod Meant
-mod Decoding

@@ -7,84 +7,66 @@ use Prim.Native.Nat.{ℕ, ◌≤◌}
 use native.Mathlib.Omega.{arith}
 use lib.Dec.{eqb}
 use borrow.Author.Tests.{eqb-true, eqb-false}
+use Rattle.std.specs.Prelude.{Some, None}
 use Rattle.board.specs.declared.numbers.Size.{Size}
 use Rattle.board.specs.declared.numbers.TaskNo.{TaskNo}
 use Rattle.board.specs.declared.numbers.MsgNo.{MsgNo}
-use Rattle.board.specs.declared.numbers.TaskMeant.TheVariants.{Task, NoTask}
-use Rattle.board.specs.declared.numbers.MessageMeant.{MessageMeant}
-use Rattle.board.specs.declared.numbers.MessageMeant.TheVariants.{Message, NoMessage}
-use Rattle.board.specs.Numbers.{outside, task_no, task_meant, message_meant, number_of_task, number_of_message, on_board}
+use Rattle.board.specs.Numbers.{outside, task_no, msg_no, task_meant, message_meant, stored, number_of_task, number_of_message, on_board}
 use Rattle.board.proofs.Pieces.{within-outside}
 
--- ---- a choice is known by its outcome
-cond_second : {A : Type 0} (t : Bool) (x y v : A) → cond t x y ≡ v → (x ≡ v → ⊥) → (t ≡ false) × (y ≡ v)
-cond_second true x y v e n = absurd (n e)
-cond_second false x y v e n = (refl, e)
+-- ---- a number of either kind
+module _ {N : Type 0} where
+  chosen_some : (t : Bool) (x n : N) → cond t None (Some x) ≡ Some n → (t ≡ false) × (n ≡ x)
+  chosen_some true x n e = absurd (cc)
+  chosen_some false x n e = (refl, cc)
 
-cond_first : {A : Type 0} (t : Bool) (x y v : A) → cond t x y ≡ v → (y ≡ v → ⊥) → t ≡ true
-cond_first true x y v e n = refl
-cond_first false x y v e n = absurd (n e)
+  chosen_none : (t : Bool) (x : N) → cond t None (Some x) ≡ None → t ≡ true
+  chosen_none true x e = refl
+  chosen_none false x e = absurd (cc)
+
+  chosen_stored : (number : N → ℕ) (t : Bool) (x : N) → stored number (cond t None (Some x)) ≡ cond t 0 (number x)
+  chosen_stored number true x = refl
+  chosen_stored number false x = refl
 
 -- ---- tasks
-no_task : (k : TaskNo) → NoTask ≡ Task k → ⊥
-no_task k e = let f : ◌≡◌ {A = ℕ} 0 1 = cc in omega arith
-
 -- a word that means a task isn't outside, and is its number
-pub task_meant-task : (z : Size) (w : ℕ) (k : TaskNo) → task_meant z w ≡ Task k → (outside z.tasks w ≡ false) × (k ≡ task_no w)
-task_meant-task z w k e =
-    let s = cond_second (outside z.tasks w) NoTask (Task (task_no w)) (Task k) e (no_task k) in
-    (s.0, let f : Task (task_no w) ≡ Task k = s.1 in cc)
+pub task_meant-task : (z : Size) (w : ℕ) (k : TaskNo) → task_meant z w ≡ Some k → (outside z.tasks w ≡ false) × (k ≡ task_no w)
+task_meant-task z w k e = chosen_some _ _ k e
 
 -- so the task is of the board
-pub task_meant_there : (z : Size) (w : ℕ) (k : TaskNo) → task_meant z w ≡ Task k → (outside z.tasks k.0 ≡ false) × (k.0 ≡ w)
+pub task_meant_there : (z : Size) (w : ℕ) (k : TaskNo) → task_meant z w ≡ Some k → (outside z.tasks k.0 ≡ false) × (k.0 ≡ w)
 task_meant_there z w k e =
     let t = task_meant-task z w k e in
     (ap (λ (j : TaskNo). outside z.tasks j.0) t.1 ∙ t.0, ap (λ (j : TaskNo). j.0) t.1)
 
 -- a word that means none is outside
-pub task_meant_none : (z : Size) (w : ℕ) → task_meant z w ≡ NoTask → outside z.tasks w ≡ true
-task_meant_none z w e = cond_first (outside z.tasks w) NoTask (Task (task_no w)) NoTask e (λ f. no_task (task_no w) (sym f))
+pub task_meant_none : (z : Size) (w : ℕ) → task_meant z w ≡ None → outside z.tasks w ≡ true
+task_meant_none z w e = chosen_none _ (task_no w) e
 
 -- ---- messages
-no_message : (m : MsgNo) → NoMessage ≡ Message m → ⊥
-no_message m e = let f : ◌≡◌ {A = ℕ} 0 1 = cc in omega arith
-
 -- a word that means a message isn't outside, and is its number
-pub message_meant-message : (z : Size) (w : ℕ) (m : MsgNo) → message_meant z w ≡ Message m
+pub message_meant-message : (z : Size) (w : ℕ) (m : MsgNo) → message_meant z w ≡ Some m
     → (outside z.messages w ≡ false) × (m ≡ record { 0 = w })
-message_meant-message z w m e =
-    let x : MessageMeant = Message (record { 0 = w }) in
-    let s = cond_second (outside z.messages w) NoMessage x (Message m) e (no_message m) in
-    (s.0, let f : x ≡ Message m = s.1 in cc)
+message_meant-message z w m e = chosen_some _ _ m e
 
 -- so the message is of the board
-pub message_meant_there : (z : Size) (w : ℕ) (m : MsgNo) → message_meant z w ≡ Message m
+pub message_meant_there : (z : Size) (w : ℕ) (m : MsgNo) → message_meant z w ≡ Some m
     → (outside z.messages m.0 ≡ false) × (m.0 ≡ w)
 message_meant_there z w m e =
     let t = message_meant-message z w m e in
     (ap (λ (j : MsgNo). outside z.messages j.0) t.1 ∙ t.0, ap (λ (j : MsgNo). j.0) t.1)
 
 -- a word that means none is outside
-pub message_meant_none : (z : Size) (w : ℕ) → message_meant z w ≡ NoMessage → outside z.messages w ≡ true
-message_meant_none z w e =
-    let m : MsgNo = record { 0 = w } in
-    cond_first (outside z.messages w) NoMessage (Message m) NoMessage e (λ f. no_message m (sym f))
+pub message_meant_none : (z : Size) (w : ℕ) → message_meant z w ≡ None → outside z.messages w ≡ true
+message_meant_none z w e = chosen_none _ (msg_no w) e
 
 -- ---- the number of what a word means
 -- is the word where the board has it, else 0
 pub number_of_task_lem : (z : Size) (w : ℕ) → number_of_task (task_meant z w) ≡ on_board z.tasks w
-number_of_task_lem z w = go (outside z.tasks w)
-  where
-    go : (t : Bool) → number_of_task (cond t NoTask (Task (task_no w))) ≡ cond t 0 w
-    go true = refl
-    go false = refl
+number_of_task_lem z w = chosen_stored (λ k. k.0) (outside z.tasks w) (task_no w)
 
 pub number_of_message_lem : (z : Size) (w : ℕ) → number_of_message (message_meant z w) ≡ on_board z.messages w
-number_of_message_lem z w = go (outside z.messages w)
-  where
-    go : (t : Bool) → number_of_message (cond t NoMessage (Message (record { 0 = w }))) ≡ cond t 0 w
-    go true = refl
-    go false = refl
+number_of_message_lem z w = chosen_stored (λ m. m.0) (outside z.messages w) (msg_no w)
 
 -- a number up to the last is itself, and so is 0
 pub on_board-within : (last w : ℕ) → outside last w ≡ false → on_board last w ≡ w

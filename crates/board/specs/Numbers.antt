@@ -6,14 +6,10 @@
 --   number_of_task t   its number, 0 for no task; number_of_message likewise
 --   on_board last w    w itself where it is a number up to the last, else 0
 -- Assumes nothing.
-use Rattle.std.specs.Prelude.{Bool, cond, ◌||◌, ℕ, ◌≤◌, eqb, ltb}
+use Rattle.std.specs.Prelude.{Bool, cond, ◌||◌, ℕ, ◌≤◌, eqb, ltb, Option, Some, None}
 use Rattle.board.specs.declared.numbers.Size.{Size}
 use Rattle.board.specs.declared.numbers.TaskNo.{TaskNo}
 use Rattle.board.specs.declared.numbers.MsgNo.{MsgNo}
-use Rattle.board.specs.declared.numbers.TaskMeant.{TaskMeant}
-use Rattle.board.specs.declared.numbers.TaskMeant.TheVariants.{Task, NoTask}
-use Rattle.board.specs.declared.numbers.MessageMeant.{MessageMeant}
-use Rattle.board.specs.declared.numbers.MessageMeant.TheVariants.{Message, NoMessage}
 
 abbrev pub small : Size
 small = record { tasks = 32; messages = 128 }
@@ -30,19 +26,22 @@ task_no k = record { 0 = k }
 abbrev pub msg_no : ℕ → MsgNo
 msg_no m = record { 0 = m }
 
-abbrev pub task_meant : Size → ℕ → TaskMeant
-task_meant z w = cond (outside z.tasks w) NoTask (Task (record { 0 = w }))
+abbrev pub task_meant : Size → ℕ → Option TaskNo
+task_meant z w = cond (outside z.tasks w) None (Some (record { 0 = w }))
 
-abbrev pub message_meant : Size → ℕ → MessageMeant
-message_meant z w = cond (outside z.messages w) NoMessage (Message (record { 0 = w }))
+abbrev pub message_meant : Size → ℕ → Option MsgNo
+message_meant z w = cond (outside z.messages w) None (Some (record { 0 = w }))
 
-abbrev pub number_of_task : TaskMeant → ℕ
-number_of_task (Task k) = k.0
-number_of_task NoTask = 0
+-- what is stored for a number of either kind: 0 for none
+abbrev pub stored : {N : Type 0} → (N → ℕ) → Option N → ℕ
+stored number (Some n) = number n
+stored number None = 0
 
-abbrev pub number_of_message : MessageMeant → ℕ
-number_of_message (Message m) = m.0
-number_of_message NoMessage = 0
+abbrev pub number_of_task : Option TaskNo → ℕ
+number_of_task = stored (λ k. k.0)
+
+abbrev pub number_of_message : Option MsgNo → ℕ
+number_of_message = stored (λ m. m.0)
 
 abbrev pub on_board : ℕ → ℕ → ℕ
 on_board last w = cond (outside last w) 0 w

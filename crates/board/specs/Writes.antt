@@ -1,5 +1,5 @@
 -- What a writer makes of the bytes it is lent, whatever their length: the record's bytes at its place, nothing past the end, and nothing
--- at all for a number that the board does not have. The contracts of src/bytes.rt cite this file.
+-- at all for a number that the board does not have. The contracts of lent cite this file.
 --   put_in a l k vs     the bytes l with the record k of the area a made of vs
 --   put_task z l k t    .. with task k so; put_message, put_place, put_first and put_running likewise
 -- Assumes nothing.

@@ -2,9 +2,9 @@
 ghost use Rattle.std.specs.Prelude.{◌≡◌, ◌%◌};
 ghost use Rattle.board.specs.Places.{place_of, place_byte, is_held_by, is_queued_at, is_on_timer};
 
-use crate::numbers::{Size, TaskMeant, TaskNo};
+use crate::numbers::{Number, Size, TaskNo};
 
-#[derive(Clone, Copy)]
+#[derive(Clone, Copy, Debug, PartialEq, Eq)]
 pub enum Place {
     Free,
     HeldBy(TaskNo),
@@ -21,15 +21,13 @@ impl Place {
         if p == 0 {
             return Place::Free;
         }
-        let holder = TaskNo::meant(z, p as u16);
-        if let TaskMeant::Task(k) = holder {
+        if let Some(k) = TaskNo::meant(z, p as u16) {
             return Place::HeldBy(k);
         }
         if p < 64 {
             return Place::Nowhere(p);
         }
-        let receiver = TaskNo::meant(z, (p - 64) as u16);
-        if let TaskMeant::Task(r) = receiver {
+        if let Some(r) = TaskNo::meant(z, (p - 64) as u16) {
             return Place::QueuedAt(r);
         }
         if p == 128 {
@@ -55,36 +53,21 @@ impl Place {
     pub fn is_held_by(self, c: TaskNo) -> bool
         ensures { result ≡ is_held_by c.0 self }
     {
-        match self {
-            Place::Free => false,
-            Place::HeldBy(k) => k.number() == c.number(),
-            Place::QueuedAt(_) => false,
-            Place::OnTimer => false,
-            Place::Nowhere(_) => false,
-        }
+        self == Place::HeldBy(c)
     }
 
     pub fn is_on_timer(self) -> bool
         ensures { result ≡ is_on_timer self }
     {
-        match self {
-            Place::Free => false,
-            Place::HeldBy(_) => false,
-            Place::QueuedAt(_) => false,
-            Place::OnTimer => true,
-            Place::Nowhere(_) => false,
-        }
+        self == Place::OnTimer
     }
 
     // The place byte p says 'on the timer'. It is asked of every message, so the byte is compared and not decoded.
     pub fn says_on_timer(z: Size, p: u8) -> bool
         ensures { result ≡ is_on_timer (place_of z p) }
     {
-        if p != 128 {
-            return false;
-        }
         // among more than 63 tasks this byte would name a receiver or a holder
-        z.tasks < 64
+        p == 128 && z.tasks < 64
     }
 
     // The place byte p says 'queued at task k'. A walk asks it of every message, so the byte is compared and not decoded.
@@ -92,19 +75,7 @@ impl Place {
         ensures { result ≡ is_queued_at k.0 (place_of z p) }
     {
         let n = k.number();
-        if p as u32 != 64 + n as u32 {
-            return false;
-        }
         // among more than 64 tasks this byte would name a holder
-        if (p as u16) <= z.tasks {
-            return false;
-        }
-        if n == 0 {
-            return false;
-        }
-        if z.tasks < n {
-            return false;
-        }
-        true
+        p as u32 == 64 + n as u32 && z.tasks < p as u16 && n != 0 && n <= z.tasks
     }
 }

@@ -3,12 +3,13 @@
 ghost use Rattle.std.specs.Prelude.{◌≡◌};
 ghost use Rattle.board.specs.Numbers.{task_meant, message_meant, number_of_task, number_of_message};
 ghost use Rattle.board.specs.Status.{is_present, is_ready, stored};
-ghost use Rattle.board.specs.Records.{no_task, no_message, task_with_stat, task_with_link, task_with_mptr, with_stat, with_prio, with_link, with_rptr, with_sptr};
+ghost use Rattle.board.specs.Records.{no_task, no_message, task_with_stat, task_with_link, task_with_mptr, with_stat, with_prio};
+ghost use Rattle.board.specs.Records.{with_link, with_rptr, with_sptr};
 
-use crate::numbers::{MessageMeant, MsgNo, Size, TaskMeant, TaskNo};
+use crate::numbers::{MsgNo, Number, Size, TaskNo};
 use crate::status::Status;
 
-#[derive(Clone, Copy)]
+#[derive(Clone, Copy, Debug, Default, PartialEq, Eq)]
 pub struct Task {
     pub stat: Status,
     pub prio: u8,
@@ -18,7 +19,7 @@ pub struct Task {
     pub name: u16,
 }
 
-#[derive(Clone, Copy)]
+#[derive(Clone, Copy, Debug, Default, PartialEq, Eq)]
 pub struct Message {
     pub stat: u8,
     pub prio: u8,
@@ -32,28 +33,19 @@ impl Task {
     pub fn none() -> Task
         ensures { result ≡ no_task }
     {
-        Task {
-            stat: Status::stored(0),
-            prio: 0,
-            link: 0,
-            mptr: 0,
-            sptr: 0,
-            name: 0,
-        }
+        Task::default()
     }
 
     pub fn present(self) -> bool
         ensures { result ≡ is_present self.stat }
     {
-        let s = self.stat;
-        s.present()
+        self.stat.present()
     }
 
     pub fn ready(self) -> bool
         ensures { result ≡ is_ready self.stat }
     {
-        let s = self.stat;
-        s.ready()
+        self.stat.ready()
     }
 
     pub fn with_stat(mut self, s: Status) -> Task
@@ -64,27 +56,27 @@ impl Task {
     }
 
     // The next task of the task queue: LINK.
-    pub fn next(self, z: Size) -> TaskMeant
+    pub fn next(self, z: Size) -> Option<TaskNo>
         ensures { result ≡ task_meant z self.link }
     {
         TaskNo::meant(z, self.link)
     }
 
     // The first message of its queue: MPTR.
-    pub fn first(self, z: Size) -> MessageMeant
+    pub fn first(self, z: Size) -> Option<MsgNo>
         ensures { result ≡ message_meant z self.mptr }
     {
         MsgNo::meant(z, self.mptr)
     }
 
-    pub fn with_link(mut self, next: TaskMeant) -> Task
+    pub fn with_link(mut self, next: Option<TaskNo>) -> Task
         ensures { result ≡ task_with_link self (number_of_task next) }
     {
         self.link = next.number();
         self
     }
 
-    pub fn with_mptr(mut self, m: MessageMeant) -> Task
+    pub fn with_mptr(mut self, m: Option<MsgNo>) -> Task
         ensures { result ≡ task_with_mptr self (number_of_message m) }
     {
         self.mptr = m.number();
@@ -97,13 +89,7 @@ impl Message {
     pub fn none() -> Message
         ensures { result ≡ no_message }
     {
-        Message {
-            stat: 0,
-            prio: 0,
-            link: 0,
-            rptr: 0,
-            sptr: 0,
-        }
+        Message::default()
     }
 
     pub fn with_stat(mut self, s: u8) -> Message
@@ -121,13 +107,13 @@ impl Message {
     }
 
     // The next message of the queue: LINK.
-    pub fn next(self, z: Size) -> MessageMeant
+    pub fn next(self, z: Size) -> Option<MsgNo>
         ensures { result ≡ message_meant z self.link }
     {
         MsgNo::meant(z, self.link)
     }
 
-    pub fn with_link(mut self, next: MessageMeant) -> Message
+    pub fn with_link(mut self, next: Option<MsgNo>) -> Message
         ensures { result ≡ with_link self (number_of_message next) }
     {
         self.link = next.number();

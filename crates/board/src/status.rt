@@ -3,7 +3,7 @@
 ghost use Rattle.std.specs.Prelude.{◌≡◌};
 ghost use Rattle.board.specs.Status.{has, with_bit, without_bit, is_present, is_ready};
 
-#[derive(Clone, Copy)]
+#[derive(Clone, Copy, Debug, Default, PartialEq, Eq)]
 pub struct Status(u8);
 
 impl Status {
@@ -23,6 +23,7 @@ impl Status {
 
     pub const TCBB: u8 = 1;
 
+    // Document 01 asks for a constructor from the stored byte: by this name a call says so, as `From` would not.
     pub fn stored(b: u8) -> Status
         ensures { result ≡ record { 0 = b } }
     {
@@ -64,12 +65,6 @@ impl Status {
     pub fn ready(self) -> bool
         ensures { result ≡ is_ready self }
     {
-        if self.present() {
-            if self.has(Status::WAIT) {
-                return false;
-            }
-            return !self.has(Status::IWAT);
-        }
-        false
+        self.present() && !self.has(Status::WAIT) && !self.has(Status::IWAT)
     }
 }

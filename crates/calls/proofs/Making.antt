@@ -1,18 +1,22 @@
 -- A body, and dispatch behind it, are the whole call. Assumes nothing.
-use mathlib.Core.Path.{subst}
-use mathlib.Core.List.{List}
-use Prim.Native.Nat.{ℕ}
-use Rattle.board.specs.declared.numbers.Size.{Size}
-use Rattle.board.specs.declared.numbers.TaskMeant.{TaskMeant}
+use mathlib.Core.Path.{subst, ◌∙◌}
+use Rattle.std.specs.Prelude.{Option}
+use Rattle.board.specs.declared.numbers.TaskNo.{TaskNo}
 use Rattle.board.specs.Numbers.{number_of_task}
+use Rattle.lent.specs.declared.bytes.LentMut.{LentMut}
 use Rattle.paper.specs.declared.call.Call.{Call}
-use Rattle.paper.specs.declared.answer.Answer.{Answer}
-use Rattle.paper.specs.Outcomes.{Ends}
-use Rattle.stores.specs.declared.Body.{Body}
-use Rattle.stores.specs.Answers.{Runner, Makes}
+use Rattle.paper.specs.Answers.{Answer}
+use Rattle.stores.specs.Answers.{Runner, Made, Ended, Body}
 use Rattle.stores.specs.Calls.{stepping, finish, called}
 
-pub makes : (z : Size) (l : List ℕ) (call : Call) {x : TaskMeant} → Runner z l x → {y : Body} {m : List ℕ}
-    → Makes y m (stepping z l call) → {a : Answer} {d : List ℕ} → Ends a d (finish z (number_of_task x) y m) → Ends a d (called z l call)
-makes z l call ex h {a = a} {d = d} =
-    subst (Ends a d) (λ i. finish z (ex.1 i) (h.answers i) (h.leaves i))
+-- the body makes mid of the board old, and dispatch makes new of that; x runs
+pub makes : (call : Call) {old mid new : LentMut} {x : Option TaskNo} → Runner old.size old.bytes.now x → {y : Body}
+    → Made y old mid (stepping old.size old.bytes.now call) → {a : Answer}
+    → Ended a mid new (finish mid.size (number_of_task x) y mid.bytes.now) → Ended a old new (called old.size old.bytes.now call)
+makes call {mid = mid} {new = new} ex h {a = a} e =
+    let b = h.becomes in
+    let f = subst (Ended a mid new) (λ i. finish (b.size i) (ex.1 i) (h.answers i) (b.bytes i)) e in
+    record {
+      answers = f.answers;
+      becomes = record { bytes = f.becomes.bytes; size = f.becomes.size ∙ b.size; loan = f.becomes.loan ∙ b.loan };
+    }

@@ -1,1 +1,2 @@
-mod Stored
+pub mod Walking
+pub mod Spots

@@ -4,18 +4,15 @@
 
 use std::io;
 use std::io::Write;
-use telling::finding::{Finding, judged, tell_running};
+use telling::finding::{judged, tell_running};
 use telling::input::read_full;
-use telling::print::text;
 
 fn tell<W: Write>(out: &mut W, l: &[u8]) -> io::Result<()> {
-    let found = judged(out, l)?;
-    let Finding::Passes(k) = found else {
-        return Ok(());
-    };
-    text(out, b"passes the check; ")?;
-    tell_running(out, k)?;
-    text(out, b"\n")?;
+    if let Ok(k) = judged(out, l)? {
+        write!(out, "passes the check; ")?;
+        tell_running(out, k)?;
+        writeln!(out)?;
+    }
     Ok(())
 }
 

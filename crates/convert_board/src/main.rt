@@ -4,15 +4,14 @@
 
 use std::io;
 use std::io::Write;
-use telling::finding::{Finding, converted};
+use telling::finding::converted;
 use telling::input::read_full;
 
 fn convert<W: Write>(out: &mut W, l: &mut [u8]) -> io::Result<()> {
-    let found = converted(out, l)?;
-    let Finding::Passes(_) = found else {
-        return Ok(());
-    };
-    out.write_all(l)
+    if converted(out, l)?.is_ok() {
+        out.write_all(l)?;
+    }
+    Ok(())
 }
 
 fn main(rt: HostRuntime) -> io::Result<()> {

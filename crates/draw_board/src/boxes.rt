@@ -1,137 +1,147 @@
-// The messages of a task as boxes: those of its queue with an arrow to each from the one before, and those that it holds.
-ghost use Rattle.std.specs.Prelude.{length, ◌≤◌};
-ghost use Rattle.board.specs.Numbers.{small};
-ghost use Rattle.board.specs.Board.{total};
+// The boxes of messages, and those of a task: its queue with an arrow to each from the one before, and what it holds.
+ghost use Rattle.std.specs.Prelude.{◌≤◌};
 
-use crate::rows::{BESIDE, ROW};
-use board::numbers::{MessageMeant, Size, TaskNo};
+use crate::rows::{BESIDE, ROW, TIMED_ROW};
+use board::numbers::{MsgNo, Number, TaskNo};
 use board::priority::{fifo, number};
 use board::records::Message;
 use lent::by_word::{message_meant, place_meant};
-use lent::bytes::message_at;
+use lent::bytes::Lent;
 use std::io;
 use std::io::Write;
-use telling::print::{decimal, text};
+use telling::order::order;
+use telling::walks::queue;
+
+// How the boxes of a list look: their class, how wide and high they are, where in them the priority ends and both numbers stand,
+// and how far apart their rows are.
+#[derive(Clone, Copy)]
+pub(crate) struct Look {
+    class: &'static str,
+    wide: u32,
+    high: u32,
+    right: u32,
+    low: u32,
+    apart: u32,
+}
+
+const QUEUED: Look = Look {
+    class: "queued",
+    wide: 70,
+    high: 30,
+    right: 63,
+    low: 20,
+    apart: ROW,
+};
+
+const HELD: Look = Look {
+    class: "held",
+    ..QUEUED
+};
+
+pub(crate) const TIMED: Look = Look {
+    class: "timed",
+    wide: 80,
+    high: 50,
+    right: 73,
+    low: 16,
+    apart: TIMED_ROW,
+};
 
 // What a person sees who points at the box.
-pub(crate) fn draw_details<W: Write>(out: &mut W, m: u16, u: Message) -> io::Result<()> {
-    text(out, b"<title>message ")?;
-    decimal(out, m as u64)?;
-    text(out, b", priority ")?;
-    decimal(out, number(u.prio) as u64)?;
-    if fifo(u.prio) {
-        text(out, b", FIFO")?;
-    } else {
-        text(out, b", LIFO")?;
-    }
+fn draw_details<W: Write>(out: &mut W, m: u16, u: Message) -> io::Result<()> {
+    write!(
+        out,
+        "<title>message {m}, priority {}, {}",
+        number(u.prio),
+        order(u.prio),
+    )?;
     if u.sptr != 0 {
-        text(out, b", from task ")?;
-        decimal(out, u.sptr as u64)?;
+        write!(out, ", from task {}", u.sptr)?;
     }
     if u.rptr != 0 {
-        text(out, b", to task ")?;
-        decimal(out, u.rptr as u64)?;
+        write!(out, ", to task {}", u.rptr)?;
     }
-    text(out, b"</title>")?;
-    Ok(())
+    write!(out, "</title>")
 }
 
-// The box of message n of a list whose first row is at y.
-fn start_box<W: Write>(out: &mut W, class: &[u8], n: u32, y: u32) -> io::Result<()> {
-    text(out, b"<g class='")?;
-    text(out, class)?;
-    text(out, b"' transform='translate(")?;
-    decimal(out, 380 + 88 * ((n % BESIDE) as u64))?;
-    text(out, b",")?;
-    decimal(out, y as u64 + 10 + (ROW as u64) * ((n / BESIDE) as u64))?;
-    text(out, b")'>")?;
-    Ok(())
-}
-
-// LIFO has a broken line.
-fn start_held<W: Write>(out: &mut W, u: Message, n: u32, y: u32) -> io::Result<()> {
-    if fifo(u.prio) {
-        start_box(out, b"held", n, y)?;
-    } else {
-        start_box(out, b"held lifo", n, y)?;
-    }
-    Ok(())
-}
-
-fn draw_box<W: Write>(out: &mut W, m: u16, u: Message) -> io::Result<()> {
-    draw_details(out, m, u)?;
-    text(
+// The box of message n of a list whose first row is at y. LIFO has a broken line; nothing that is queued is LIFO.
+pub(crate) fn start_box<W: Write>(
+    out: &mut W,
+    look: Look,
+    u: Message,
+    n: u32,
+    y: u32,
+) -> io::Result<()> {
+    let class = look.class;
+    let lifo = if fifo(u.prio) { "" } else { " lifo" };
+    let x = 380 + 88 * (n % BESIDE);
+    let y = u64::from(y) + u64::from(look.apart) * u64::from(n / BESIDE);
+    write!(
         out,
-        b"<rect width='70' height='30' rx='5'/><text class='no' x='8' y='20'>",
+        "<g class='{class}{lifo}' transform='translate({x},{y})'>",
+    )
+}
+
+pub(crate) fn draw_box<W: Write>(out: &mut W, look: Look, m: u16, u: Message) -> io::Result<()> {
+    draw_details(out, m, u)?;
+    let Look {
+        wide,
+        high,
+        right,
+        low,
+        ..
+    } = look;
+    write!(
+        out,
+        "<rect width='{wide}' height='{high}' rx='5'/><text class='no' x='8' y='{low}'>{m}</text>",
     )?;
-    decimal(out, m as u64)?;
-    text(out, b"</text><text class='pr' x='63' y='20'>p")?;
-    decimal(out, number(u.prio) as u64)?;
-    text(out, b"</text></g>\n")?;
-    Ok(())
+    write!(
+        out,
+        "<text class='pr' x='{right}' y='{low}'>p{}</text>",
+        number(u.prio),
+    )
 }
 
 // From the task's box to the first, from the end of a row down to the next row, and from a box to the one beside it.
 fn draw_arrow<W: Write>(out: &mut W, n: u32) -> io::Result<()> {
-    if n == 0 {
-        text(out, b"<path d='M-40,15 h34'/>")?;
-        return Ok(());
-    }
-    if n % BESIDE == 0 {
-        text(out, b"<path d='M774,-29 h12 v22 H-22 v22 h16'/>")?;
-        return Ok(());
-    }
-    text(out, b"<path d='M-18,15 h12'/>")?;
-    Ok(())
+    let path = match n {
+        0 => "M-40,15 h34",
+        n if n % BESIDE == 0 => "M774,-29 h12 v22 H-22 v22 h16",
+        _ => "M-18,15 h12",
+    };
+    write!(out, "<path d='{path}'/>")
 }
 
-// The queue in its order. It has no more than the 128 blocks of the board.
-pub(crate) fn draw_queue<W: Write>(out: &mut W, l: &[u8], first: MessageMeant) -> io::Result<()>
-    requires { total small ≤ length l.now }
-{
-    let mut next = first;
-    let mut n: u32 = 0;
-    while n < 128 {
-        let MessageMeant::Message(m) = next else {
-            return Ok(());
-        };
-        let u = message_at(Size::SMALL, l, m);
-        start_box(out, b"queued", n, 0)?;
+// The queue in its order.
+pub(crate) fn draw_queue<W: Write>(
+    out: &mut W,
+    l: Lent<'_>,
+    first: Option<MsgNo>,
+) -> io::Result<()> {
+    for ((m, u), n) in queue(l, first).zip(0u32..) {
+        start_box(out, QUEUED, u, n, 10)?;
         draw_arrow(out, n)?;
-        draw_box(out, m.number(), u)?;
-        next = u.next(Size::SMALL);
-        n += 1;
+        draw_box(out, QUEUED, m.number(), u)?;
+        writeln!(out, "</g>")?;
     }
-    Ok(())
-}
-
-fn draw_label<W: Write>(out: &mut W, y: u32) -> io::Result<()> {
-    text(out, b"<text class='label' x='370' y='")?;
-    decimal(out, y as u64 + 30)?;
-    text(out, b"'>holds</text>\n")?;
     Ok(())
 }
 
 // What the task holds, below so many rows of its queue.
-pub(crate) fn draw_held<W: Write>(out: &mut W, l: &[u8], k: TaskNo, below: u32) -> io::Result<()>
-    requires small_in_bounds { total small ≤ length l.now }
-    requires below_bound { below ≤ 7300 }
+pub(crate) fn draw_held<W: Write>(out: &mut W, l: Lent<'_>, k: TaskNo, below: u32) -> io::Result<()>
+    requires { below ≤ 7300 }
 {
     let y = ROW * below;
-    let mut m: u16 = 0;
-    let mut n: u32 = 0;
-    while m < 128 {
-        m += 1;
-        let p = place_meant(Size::SMALL, l, m);
-        if p.is_held_by(k) {
-            if n == 0 {
-                draw_label(out, y)?;
-            }
-            let u = message_meant(Size::SMALL, l, m);
-            start_held(out, u, n, y)?;
-            draw_box(out, m, u)?;
-            n += 1;
+    let held = (1..=l.size.messages).filter(|m| place_meant(l, *m).is_held_by(k));
+    for (m, n) in held.zip(0u32..) {
+        if n == 0 {
+            let low = y + 30;
+            writeln!(out, "<text class='label' x='370' y='{low}'>holds</text>")?;
         }
+        let u = message_meant(l, m);
+        start_box(out, HELD, u, n, y + 10)?;
+        draw_box(out, HELD, m, u)?;
+        writeln!(out, "</g>")?;
     }
     Ok(())
 }

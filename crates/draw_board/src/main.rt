@@ -9,84 +9,71 @@ mod on_timer;
 mod page;
 mod rows;
 
-ghost use Rattle.std.specs.Prelude.{◌≤◌, length};
-ghost use Rattle.board.specs.Numbers.{small};
-ghost use Rattle.board.specs.Board.{total};
-
-use board::numbers::{Size, TaskMeant};
+use board::numbers::{Number, Size};
+use board::places::Place;
 use boxes::{draw_held, draw_queue};
-use lent::bytes::{first_task, task_at};
+use lent::bytes::Lent;
 use on_timer::draw_on_timer;
 use page::{draw_foot, draw_head, draw_row, draw_task, end_row};
-use rows::{TOP, foot, queue_rows, row_height, timer_height};
+use rows::{TOP, foot, row_height, rows_at, timer_height};
 use std::io;
 use std::io::Write;
 use std::rt::Files;
-use telling::finding::{Finding, judged};
+use telling::finding::judged;
 use telling::input::read_full;
-use telling::timer_buffer::{is_lent, read_timer, timer_judged};
+use telling::timer_buffer::{Timer, is_lent, read_timer, timer_judged};
+use telling::walks::tasks;
 
-// The tasks in queue order, each below the one before. A board that passes has no more than 32.
-fn draw_tasks<W: Write>(out: &mut W, l: &[u8], runs: u16) -> io::Result<()>
-    requires { total small ≤ length l.now }
-{
-    let mut next = first_task(Size::SMALL, l);
-    let mut left: u32 = 32;
+// The tasks in queue order, each below the one before.
+fn draw_tasks<W: Write>(out: &mut W, l: Lent<'_>, runs: u16) -> io::Result<()> {
     let mut y = TOP;
-    while 0 < left {
-        let TaskMeant::Task(k) = next else {
-            return Ok(());
-        };
-        let t = task_at(Size::SMALL, l, k);
+    for (k, t) in tasks(l) {
         let high = row_height(l, k);
         draw_row(out, y, high - 6)?;
         draw_task(out, k, t, k.number() == runs)?;
-        draw_queue(out, l, t.first(Size::SMALL))?;
-        draw_held(out, l, k, queue_rows(l, k))?;
+        draw_queue(out, l, t.first(l.size))?;
+        draw_held(out, l, k, rows_at(l, Place::QueuedAt(k)))?;
         end_row(out)?;
         y += high;
-        next = t.next(Size::SMALL);
-        left -= 1;
     }
     Ok(())
 }
 
-// A board that passes, and the timer buffer s for it, which is empty where there is none.
-fn draw_board<W: Write>(out: &mut W, l: &[u8], runs: u16, s: &[u8]) -> io::Result<()>
-    requires { total small ≤ length l.now }
-{
+// A board that passes, and the timer buffer for it, where there is one.
+fn draw_board<W: Write>(out: &mut W, l: Lent<'_>, runs: u16, s: Option<&Timer>) -> io::Result<()> {
     let y = foot(l);
-    let high = timer_height(l, s);
-    draw_head(out, l, runs, y + high)?;
+    let timer = timer_height(l, s);
+    let end = y + timer.unwrap_or(0);
+    draw_head(out, l, runs, end)?;
     draw_tasks(out, l, runs)?;
-    draw_on_timer(out, l, s, y, high)?;
-    draw_foot(out, l, y + high)
+    if let Some(high) = timer {
+        draw_on_timer(out, l, s, y, high)?;
+    }
+    draw_foot(out, l, end)
 }
 
 // The buffer is read for a board that passes alone.
-fn draw_passing<R: Files, W: Write>(rt: &R, out: &mut W, l: &[u8], runs: u16) -> io::Result<()>
-    requires { total small ≤ length l.now }
-{
+fn draw_passing<R: Files, W: Write>(rt: &R, out: &mut W, l: Lent<'_>, runs: u16) -> io::Result<()> {
     let mut space = [0u8; 65536];
     let n = read_timer(&mut space);
     if !is_lent(rt, n)? {
-        return draw_board(out, l, runs, b"");
+        return draw_board(out, l, runs, None);
     }
-    if timer_judged(out, l, &space[..n])? {
-        draw_board(out, l, runs, &space[..n])?;
+    let s = &space[..n];
+    if timer_judged(out, l, s)? {
+        draw_board(out, l, runs, <&Timer>::try_from(s).ok())?;
     }
     Ok(())
 }
 
 fn draw<R: Files, W: Write>(rt: &R, out: &mut W, l: &[u8]) -> io::Result<()> {
-    let found = judged(out, l)?;
-    let Finding::Passes(runs) = found else {
+    let Ok(runs) = judged(out, l)? else {
         return Ok(());
     };
     // what passes is whole: the readers want to see it
-    if l.len() < 1476 {
+    let Some(l) = Lent::of(Size::SMALL, l) else {
         return Ok(());
-    }
+    };
     draw_passing(rt, out, l, runs)
 }
 

@@ -1,3 +1,1 @@
-mod Packing
-mod NoCall
 mod Theorems

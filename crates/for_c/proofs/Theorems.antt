@@ -8,6 +8,7 @@ use native.Mathlib.Decide.{ℕ_discrete}
 use lib.Dec.{lit<}
 use lib.ListN.{get_or}
 use borrow.Author.Tests.{not-false}
+use Rattle.std.specs.Prelude.{Err, Ok}
 use Rattle.board.specs.Numbers.{small}
 use Rattle.board.specs.Status.{MHBS, has}
 use Rattle.board.specs.Records.{Byte, no_task}
@@ -15,9 +16,7 @@ use Rattle.board.specs.Board.{Board, board_of}
 use Rattle.board.proofs.Codec.{length-tasks}
 use Rattle.paper.specs.declared.answer.Rule.{Rule}
 use Rattle.paper.specs.declared.answer.Rule.TheVariants.{R1, R2, R3, R4, R5, R6, R7}
-use Rattle.paper.specs.declared.answer.Answer.{Answer}
-use Rattle.paper.specs.declared.answer.Answer.TheVariants.{Accepted, Refused}
-use Rattle.paper.specs.Answers.{record_number, told, Handed, handed}
+use Rattle.paper.specs.Answers.{record_number, told, Handed, handed, Answer}
 use Rattle.paper.specs.Rules.{first_ready, passes}
 use Rattle.paper.specs.Named.{broken_rule}
 use Rattle.paper.specs.Outcomes.{effect, check}
@@ -30,8 +29,8 @@ use Rattle.for_c.specs.Claims.{Words, RecordFits, PackedTells, NoAnswerIs255}
 
 -- the number is 0 to 18
 number_small : (a : Answer) → (handed a).number < 19
-number_small (Accepted v c m) = lit< tt
-number_small (Refused q) = (refusal-number q).1
+number_small (Ok a) = lit< tt
+number_small (Err q) = (refusal-number q).1
 
 -- the rule is 0 to 7
 rule-small : (a : Answer) → (handed a).rule < 8
@@ -102,18 +101,18 @@ abbrev middle : Handed → ℕ
 middle h = h.value + h.rule + 256 * h.record_no
 
 middle_small : (a : Answer) → Words a → middle (handed a) < 65536
-middle_small (Accepted v c m) w = let h = w.value in omega arith
-middle_small (Refused q) w = let h = rule-small (Refused q) in let r = w.record_no in omega arith
+middle_small (Ok a) w = let h = w.value in omega arith
+middle_small (Err q) w = let h = rule-small (Err q) in let r = w.record_no in omega arith
 
 -- where the numbers are the same they tell which
 middle_told : (a e : Answer) → Words a → Words e → (handed a).number ≡ (handed e).number → middle (handed a) ≡ middle (handed e)
     → ((handed a).value ≡ (handed e).value) × ((handed a).rule ≡ (handed e).rule) × ((handed a).record_no ≡ (handed e).record_no)
-middle_told (Accepted v c m) (Accepted x d n) w u i j = (omega arith, refl, refl)
-middle_told (Accepted v c m) (Refused q) w u i j = let k = (refusal-number q).0 in absurd (omega arith)
-middle_told (Refused q) (Accepted v c m) w u i j = let k = (refusal-number q).0 in absurd (omega arith)
-middle_told (Refused q) (Refused r) w u i j =
-    let k = rule-small (Refused q) in
-    let l = rule-small (Refused r) in
+middle_told (Ok a) (Ok e) w u i j = (omega arith, refl, refl)
+middle_told (Ok a) (Err q) w u i j = let k = (refusal-number q).0 in absurd (omega arith)
+middle_told (Err q) (Ok e) w u i j = let k = (refusal-number q).0 in absurd (omega arith)
+middle_told (Err q) (Err r) w u i j =
+    let k = rule-small (Err q) in
+    let l = rule-small (Err r) in
     let (rule, record_no) = byte-told (told q).rule (told r).rule (told q).record_no (told r).record_no
     (omega arith) (omega arith) (omega arith) in
     (refl, rule, record_no)

@@ -9,8 +9,7 @@ use Rattle.std.specs.Prelude.{◌≡◌, ◌≢◌, List, ℕ, get_or}
 use Rattle.board.specs.Numbers.{small}
 use Rattle.board.specs.Records.{Byte, Word}
 use Rattle.paper.specs.declared.call.Call.{Call}
-use Rattle.paper.specs.declared.answer.Answer.{Answer}
-use Rattle.paper.specs.Answers.{handed}
+use Rattle.paper.specs.Answers.{handed, Answer}
 use Rattle.paper.specs.Outcomes.{effect, check}
 use Rattle.paper.specs.Conversion.{convert}
 use Rattle.for_c.specs.Packed.{packed}

@@ -4,7 +4,8 @@ ghost use Rattle.std.specs.Prelude.{◌≡◌, ◌+◌, ◌*◌, ◌<◌};
 ghost use Rattle.paper.specs.Answers.{rule_number, record_number, told, number_of, handed};
 ghost use Rattle.for_c.specs.Packed.{packed};
 
-use paper::answer::{Answer, Refusal, Rule};
+use board::numbers::Number;
+use paper::answer::{Accepted, Answer, Refusal, Rule};
 
 // The paper's number of a refusal.
 pub fn refusal_number(q: Refusal) -> u8
@@ -85,11 +86,13 @@ pub fn pack(a: Answer) -> u64
     ensures { result ≡ packed (handed a) }
 {
     match a {
-        Answer::Accepted {
-            value,
-            running,
-            delivered,
-        } => { 256 * wide(value) + 16777216 * wide(running) + 1099511627776 * wide(delivered) }
-        Answer::Refused(q) => refusal_number(q) as u64 + 256 * named(q),
+        Ok(
+            Accepted {
+                value,
+                running,
+                delivered,
+            },
+        ) => 256 * wide(value) + 16777216 * wide(running) + 1099511627776 * wide(delivered),
+        Err(q) => refusal_number(q) as u64 + 256 * named(q),
     }
 }

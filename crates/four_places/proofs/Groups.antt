@@ -7,9 +7,9 @@ use Rattle.board.specs.declared.numbers.Size.{Size}
 use Rattle.board.specs.Numbers.{outside}
 use Rattle.board.specs.Places.{place_of, is_free}
 use Rattle.board.specs.Board.{board_of}
-use Rattle.board.proofs.Pieces.{outside-within}
+use Rattle.board.proofs.Pieces.{outside-within, outside_above}
 use Rattle.board.proofs.Codec.{place-free, place-held, place-receiver, place-timer, place_nowhere}
-use Rattle.lent.proofs.Access.{place_reads, place_beyond}
+use Rattle.lent.proofs.Access.{place_read, place_none}
 use Rattle.four_places.specs.Fours.{none_zero, in_use, none_free}
 
 -- a place is free exactly if its byte is 0
@@ -29,9 +29,7 @@ module _ (z : Size) (l : List ℕ) where
   used-byte : (m o : ℕ) → 1 ≤ m → m ≤ z.messages → o ≡ 10 * z.tasks + 8 * z.messages + m + 3
       → in_use (board_of z l) m ≡ not (eqb (get_or l o 0) 0)
   used-byte m o h k e =
-      let p = get_or l o 0 in
-      ap (λ x. not (is_free x)) (sym (place_reads z l m m o p (place_of z p) refl (λ (i : m ≡ 0). omega arith) k e refl refl))
-      ∙ ap not (free-zero z p)
+      ap (λ x. not (is_free x)) (sym (place_read z l m o (h, k) (omega arith))) ∙ ap not (free-zero z (get_or l o 0))
 
   module _ (m : ℕ) where
     -- the four behind m by the bytes from o on
@@ -49,7 +47,7 @@ module _ (z : Size) (l : List ℕ) where
     four_beyond h =
         let b = board_of z l in
         ap (λ x. in_use b (m + 1) && (in_use b (m + 2) && (in_use b (m + 3) && not (is_free x))))
-        (sym (place_beyond z l (m + 4) (m + 4) refl h))
+        (sym (place_none z l (m + 4) (outside_above z.messages (m + 4) h)))
         ∙ last (in_use b (m + 1)) (in_use b (m + 2)) (in_use b (m + 3))
       where
         last : (s t u : Bool) → (s && (t && (u && false))) ≡ false

@@ -11,6 +11,7 @@ use Rattle.std.proofs.Common.{◌≡◌, ℕ, zero, suc, ◌+◌, ◌-◌, ◌*�
 use native.Mathlib.Decide.{ℕ_discrete}
 use lib.Arith.{digits_div, digits_mod, mod-mul}
 use lib.Bits.{bit_and, and_block, and_zero_r, and_le_l}
+use Rattle.std.specs.Int.{w32, from_le_bytes}
 use Rattle.board.proofs.EveryByte.{below_at}
 use Rattle.board.proofs.Codec.{Small}
 use Rattle.four_places.specs.Fours.{none_zero}
@@ -110,13 +111,16 @@ marked (p ∷ l) h r e =
         ap (λ (u : ℕ). eqb u 0) b.2 ∙ no_mark (marks (length l) s (number l)) ∙ ih s b.1
         ∙ sym (ap (λ (t : Bool). not t && none_zero l) (ne_eqb p 0 (λ (i : p ≡ 0). omega (arith, b.0))))
 
--- four bytes p, q, s and t, which the code holds as a, b, c and d, and their number x
-pub four_marked : {a b c d p q s t x : ℕ} (r : ℕ) → (a ≡ p) × (a < 256) → (b ≡ q) × (b < 256) → (c ≡ s) × (c < 256)
-    → (d ≡ t) × (d < 256) → x ≡ a + 256 * (b + 256 * (c + 256 * d)) → (r + 16843009) % 2 ^ 32 ≡ x
-    → eqb (bit_and (bit_and r (4294967295 - x)) 2155905152) 0 ≡ none_zero (p ∷ q ∷ s ∷ t ∷ [])
-four_marked {a} {b} {c} {d} {x = x} r ha hb hc hd ex e =
-    let four = a ∷ b ∷ c ∷ d ∷ [] in
-    let n : x ≡ number four = omega arith in
-    ap (λ (y : ℕ). eqb (bit_and (bit_and r (4294967295 - y)) 2155905152) 0) n
-    ∙ marked four (ha.1, (hb.1, (hc.1, (hd.1, tt)))) r (e ∙ n)
-    ∙ (λ i. none_zero (ha.0 i ∷ hb.0 i ∷ hc.0 i ∷ hd.0 i ∷ []))
+-- four bytes and their number x, from which the code takes 16843009 by adding what that lacks to 2^32
+pub four_marked : (l : List ℕ) → length l ≡ 4 → Small l → (x : ℕ) → x < 2 ^ 32 → x ≡ from_le_bytes w32 l
+    → eqb (bit_and (bit_and ((x + 4278124287) % 2 ^ 32) (4294967295 - x)) 2155905152) 0 ≡ none_zero l
+four_marked [] e h x f n = absurd (omega arith)
+four_marked (p ∷ []) e h x f n = absurd (omega arith)
+four_marked (p ∷ q ∷ []) e h x f n = absurd (omega arith)
+four_marked (p ∷ q ∷ s ∷ []) e h x f n = absurd (omega arith)
+four_marked (p ∷ q ∷ s ∷ t ∷ []) e h x f n =
+    let l = p ∷ q ∷ s ∷ t ∷ [] in
+    let r = (x + 4278124287) % 2 ^ 32 in
+    let m : x ≡ number l = omega arith in
+    ap (λ (y : ℕ). eqb (bit_and (bit_and r (4294967295 - y)) 2155905152) 0) m ∙ marked l h r (omega arith)
+four_marked (p ∷ q ∷ s ∷ t ∷ u ∷ l) e h x f n = absurd (omega arith)

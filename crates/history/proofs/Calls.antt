@@ -22,7 +22,7 @@ use Rattle.linked.proofs.Running.{ready_says}
 use Rattle.kept.specs.Settled.{Settled, Awake}
 use Rattle.kept.specs.Touched.{touched, changed, order_after, queues_after}
 use Rattle.kept.specs.Claims.{Sizes}
-use Rattle.kept.proofs.Reading.{go_passed, runner_passed, held-row, task-passed, install-row, cancel_row, claim-row}
+use Rattle.kept.proofs.Reading.{go_passed, runner_passed, held_row, task-passed, install-row, cancel_row, claim-row}
 use Rattle.kept.proofs.Waiting.{task_numbered}
 use Rattle.kept.proofs.Placing.{sender-passed, send_settled, forward_settled}
 use Rattle.kept.proofs.Taking.{first_left, cancel_message-row}
@@ -160,12 +160,12 @@ module _ (z : Size) (b : Board) (q : List ℕ) (f : ℕ → List ℕ) (a : Sizes
   calls_alike (Prepare m t prio sptr) = record {
     verdict = rw (held_alike c (place b m));
     value = λ g. refl;
-    same = λ g. prepare_same z b q f a h l s n w c m (held-row z b c m (no14 z sptr ∷ []) g).1 t prio sptr;
+    same = λ g. prepare_same z b q f a h l s n w c m (held_row z b c m (no14 z sptr ∷ []) g).1 t prio sptr;
   }
   calls_alike (Release m) = record {
     verdict = rw (held_alike c (place b m));
     value = λ g. refl;
-    same = λ g. release_same z b q f a h l s n w c m (held-row z b c m [] g).1;
+    same = λ g. release_same z b q f a h l s n w c m (held_row z b c m [] g).1;
   }
   calls_alike (Send m r) = sends m r
   calls_alike (SendAndWait m r) = sends-waits m r

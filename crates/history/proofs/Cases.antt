@@ -13,13 +13,12 @@ use Rattle.links.specs.Chain.{In, Chain}
 use Rattle.board.specs.Board.{board_of, bytes_of}
 use Rattle.paper.specs.declared.call.Call.{Call}
 use Rattle.paper.specs.declared.call.Call.TheVariants.{Install, PostInterrupt, Claim, Prepare, Send, ReceiveAndWait, WaitForInterrupt}
-use Rattle.paper.specs.declared.answer.Answer.{Answer}
-use Rattle.paper.specs.declared.answer.Answer.TheVariants.{Accepted}
 use Rattle.paper.specs.Rules.{next_message}
 use Rattle.paper.specs.Changes.{link_message}
 use Rattle.paper.specs.Outcomes.{blank}
 use Rattle.paper.specs.History.{run}
 use Rattle.paper.proofs.Slips.{tiny, ok}
+use Rattle.paper.specs.Answers.{Answer, accepts}
 use Rattle.history.specs.Ranking.{Entry, Ranking}
 use Rattle.timing.specs.Events.{Event, Called, Started, Ticked}
 use Rattle.history.specs.Machine.{Plain}
@@ -69,11 +68,11 @@ posted prio =
     (plain_run tiny begin (map Called (Install 1 0x01 prio 0 0 ∷ Install 2 0x01 0x31 0 0 ∷ WaitForInterrupt ∷ PostInterrupt 1 ∷ []))).answers
 
 -- of equals the one that runs goes on, though the other is the earlier installed
-case_equal_goes_on : posted 0x31 ≡ ok ∷ ok ∷ Accepted 0 2 0 ∷ Accepted 0 2 0 ∷ []
+case_equal_goes_on : posted 0x31 ≡ ok ∷ ok ∷ accepts 0 2 0 ∷ accepts 0 2 0 ∷ []
 case_equal_goes_on = refl
 
 -- one of a smaller number runs at once
-case_smaller_runs_at_once : posted 0x2F ≡ ok ∷ ok ∷ Accepted 0 2 0 ∷ Accepted 0 1 0 ∷ []
+case_smaller_runs_at_once : posted 0x2F ≡ ok ∷ ok ∷ accepts 0 2 0 ∷ accepts 0 1 0 ∷ []
 case_smaller_runs_at_once = refl
 
 -- ---- the timer
@@ -87,15 +86,15 @@ abbrev fired : ℕ → ℕ → List Answer
 fired d e = drop 8 (plain_run tiny begin (watched d e (Ticked ∷ Ticked ∷ Ticked ∷ []))).answers
 
 -- one comes back at the tick that is due, and not before
-case_comes_back : fired 2 3 ≡ Accepted 0 0 0 ∷ Accepted 0 1 1 ∷ Accepted 0 1 0 ∷ []
+case_comes_back : fired 2 3 ≡ accepts 0 0 0 ∷ accepts 0 1 1 ∷ accepts 0 1 0 ∷ []
 case_comes_back = refl
 
 -- of two that are due at one tick the more urgent is handed over, though the other has the earlier entry
-case_first_by_rank : fired 2 2 ≡ Accepted 0 0 0 ∷ Accepted 0 1 2 ∷ Accepted 0 1 0 ∷ []
+case_first_by_rank : fired 2 2 ≡ accepts 0 0 0 ∷ accepts 0 1 2 ∷ accepts 0 1 0 ∷ []
 case_first_by_rank = refl
 
 -- of equals, FIFO, the one of the earlier entry
 case_equals_in_entry_order :
     drop 8 (plain_run tiny begin (Called (Install 1 0x01 0x31 0 0) ∷ Called Claim ∷ Called Claim ∷ Called (Prepare 1 0 0x15 1)
-    ∷ Called (Prepare 2 0 0x15 1) ∷ Started 2 1 ∷ Started 1 1 ∷ Called ReceiveAndWait ∷ Ticked ∷ [])).answers ≡ Accepted 0 1 2 ∷ []
+    ∷ Called (Prepare 2 0 0x15 1) ∷ Started 2 1 ∷ Started 1 1 ∷ Called ReceiveAndWait ∷ Ticked ∷ [])).answers ≡ accepts 0 1 2 ∷ []
 case_equals_in_entry_order = refl

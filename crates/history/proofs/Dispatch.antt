@@ -10,11 +10,11 @@ use Rattle.board.specs.declared.numbers.Size.{Size}
 use Rattle.board.specs.Numbers.{Numbered}
 use Rattle.board.specs.Status.{MHBS, has}
 use Rattle.board.specs.Board.{Board, bytes_of, task, with_running}
-use Rattle.paper.specs.declared.answer.Answer.TheVariants.{Accepted}
 use Rattle.paper.specs.Rules.{present, queue, runs_next}
 use Rattle.paper.specs.Changes.{clears, take_first}
 use Rattle.paper.specs.Refusals.{Test}
 use Rattle.paper.specs.Outcomes as paper
+use Rattle.paper.specs.Answers.{accepts}
 use Rattle.linked.specs.Sound.{RunsRightly}
 use Rattle.linked.proofs.Chosen.{runs_alike}
 use Rattle.kept.specs.Settled.{Settled}
@@ -76,7 +76,7 @@ module _ (z : Size) (b : Board) (q : List ℕ) (f : ℕ → List ℕ) (a : Sizes
         → Dispatched z (paper.accepted v c (first_of (queue z b c)) (bytes_of after)) (plain.deliver old (plain.played tests v p) c m)
     delivers zero e = absurd (due-queued z b q f a h c runner due (sym (first_mptr z b q f a h l s n w c numbered) ∙ e))
     delivers (suc m) e = record {
-      answers = ap (λ (x : ℕ). Accepted v c x) (sym (first_walked z b q f a h l s n w c numbered) ∙ e);
+      answers = ap (λ (x : ℕ). accepts v c x) (sym (first_walked z b q f a h l s n w c numbered) ∙ e);
       board = after;
       order = q;
       queues = left;

@@ -6,6 +6,7 @@ use mathlib.Core.List.{List, []}
 use Prim.Native.Nat.{ℕ, ◌+◌}
 use native.Mathlib.Omega.{arith}
 use lib.ListN.{length, length-map}
+use Rattle.std.specs.Prelude.{Err, Ok}
 use Rattle.board.specs.declared.numbers.Size.{Size}
 use Rattle.board.specs.Records.{Word}
 use Rattle.board.specs.Board.{Board, board_of}
@@ -13,10 +14,9 @@ use Rattle.board.proofs.Numbered.{length-put}
 use Rattle.timer.specs.Timer.{Timer, timer_of, timer_bytes}
 use Rattle.timer.specs.Claims.{TimerBytes}
 use Rattle.timer.proofs.Codec.{length-entries, timer_back}
-use Rattle.paper.specs.declared.answer.Answer.{Answer}
-use Rattle.paper.specs.declared.answer.Answer.TheVariants.{Accepted, Refused}
 use Rattle.paper.specs.Refusals.{Test, Verdict, Go, given}
 use Rattle.paper.specs.Outcomes as paper
+use Rattle.paper.specs.Answers.{Answer, accepts}
 use Rattle.kept.specs.Settled.{Settled}
 use Rattle.timing.specs.Timing.{start_own, lowest_entry, wrapped, started, started_timer, next_now, returned, freed, ticked, Timed, accepting, timed}
 use Rattle.timing.specs.Events.{Event, Called, Started, Ticked, happen}
@@ -56,8 +56,8 @@ left_timer : (s : List ℕ) (t : Timer) → Word t.ticks → length t.entries �
 left_timer s t w n a e i = by a ∙ ap (λ (x : Answer). unless_refused x (timer_of s) t) i
   where
     by : (a : Answer) → timer_of (accepting a s (timer_bytes t)) ≡ unless_refused a (timer_of s) t
-    by (Accepted v c m) = timer_back t w n
-    by (Refused q) = refl
+    by (Ok b) = timer_back t w n
+    by (Err q) = refl
 
 -- ---- start and tick alike: o and r are what comes of them on the bytes and on the machine, t the timer where they are accepted
 ends_agree : (z : Size) (s : List ℕ) (t : Timer) (o : paper.Outcome) (r : Result) → Word t.ticks → length t.entries ≡ 16
@@ -133,8 +133,8 @@ module _ (z : Size) (a : TimerSizes z) (l s : List ℕ) (p : Plain) (agreeing : 
 
 -- ---- an event
 unless_same : (a : Answer) (t : Timer) → unless_refused a t t ≡ t
-unless_same (Accepted v c m) t = refl
-unless_same (Refused q) t = refl
+unless_same (Ok a) t = refl
+unless_same (Err q) t = refl
 
 pub event_agrees : (z : Size) → TimerSizes z → (l s : List ℕ) (x : Clocked) (event : Event) → FittingEvent event → Clockwise z l s x
     → Agree z (happen z l s event) (happens z x event)

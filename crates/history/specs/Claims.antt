@@ -19,9 +19,9 @@ use Rattle.board.specs.declared.places.Place.{Place}
 use Rattle.board.specs.declared.places.Place.TheVariants as places
 use Rattle.board.specs.Numbers.{small, Numbered}
 use Rattle.board.specs.Board.{board_of, total, task, message, place}
-use Rattle.paper.specs.declared.answer.Answer.{Answer}
 use Rattle.paper.specs.Rules.{next_task, next_message, passes}
 use Rattle.paper.specs.Outcomes.{blank, Ends, fresh}
+use Rattle.paper.specs.Answers.{Answer}
 use Rattle.timer.specs.Timer.{timer_length, timer_bytes}
 use Rattle.timing.specs.Events.{Event, run_all, Happened}
 use Rattle.ticked.specs.Claims.{TimerSizes, AllEventsFit}

@@ -5,13 +5,12 @@
 --   play_start, play_tick  start and tick as rows: their refusals behind 18, and the machine before dispatch
 --   happens z p event      the answer of an event, and the machine afterwards
 -- Assumes nothing.
-use Rattle.std.specs.Prelude.{cond, List, [], ◌∷◌, ℕ, replicate}
+use Rattle.std.specs.Prelude.{cond, List, [], ◌∷◌, ℕ, replicate, Err, Ok}
 use Rattle.board.specs.declared.numbers.Size.{Size}
 use Rattle.timer.specs.declared.entry.Entry as waiting
 use Rattle.timer.specs.Timer.{Timer, timer, no_entry, is_due}
-use Rattle.paper.specs.declared.answer.Answer.{Answer}
-use Rattle.paper.specs.declared.answer.Answer.TheVariants.{Accepted, Refused}
 use Rattle.paper.specs.Refusals.{no3, no4, given}
+use Rattle.paper.specs.Answers.{Answer, accepts}
 use Rattle.timing.specs.Timing.{no16, no17, next_now, started_timer, ticked}
 use Rattle.timing.specs.Events.{Event, Called, Started, Ticked}
 use Rattle.history.specs.Machine.{Timed, Plain, start, with_whose, place, no5, no6, no7, Played, played, Result, dispatch, judged, step}
@@ -50,8 +49,8 @@ pub record Happening : Type 0 where
 
 -- a refusal leaves the timer, as it leaves the machine
 abbrev pub unless_refused : Answer → Timer → Timer → Timer
-unless_refused (Accepted v c m) t after = after
-unless_refused (Refused q) t after = t
+unless_refused (Ok a) t after = after
+unless_refused (Err q) t after = t
 
 abbrev pub happened : Result → Timer → Timer → Happening
 happened o t after =

@@ -6,7 +6,7 @@
 --   play z p c call   the call's row, c running: its refusals, its value, and the machine before dispatch
 --   step z p call     the answer of a call, and the machine afterwards; z has the numbers of tasks and messages
 -- Assumes nothing.
-use Rattle.std.specs.Prelude.{Bool, true, false, cond, not, ◌&&◌, ◌||◌, List, [], ◌∷◌, ◌++◌, ℕ, zero, suc, ◌+◌, ◌*◌, ◌%◌, eqb, ltb}
+use Rattle.std.specs.Prelude.{Bool, true, false, cond, not, ◌&&◌, ◌||◌, List, [], ◌∷◌, ◌++◌, ℕ, zero, suc, ◌+◌, ◌*◌, ◌%◌, eqb, ltb, Err}
 use Rattle.links.specs.Queue.{each}
 use Rattle.board.specs.declared.numbers.Size.{Size}
 use Rattle.board.specs.declared.status.Status.{Status}
@@ -18,9 +18,8 @@ use Rattle.paper.specs.declared.call.Call.TheVariants.{Send, SendAndWait, Resend
 use Rattle.paper.specs.declared.call.Call.TheVariants.{Receive, ReceiveAndWait, CancelMessage, WaitForInterrupt}
 use Rattle.paper.specs.declared.answer.Refusal.{Refusal}
 use Rattle.paper.specs.declared.answer.Refusal.TheVariants.{NotHeld, NoSuchTask, BadPriority, NotInstallable, TaskBusy, NoneFree, NotQueued, NotItsSender, NothingToDeliver}
-use Rattle.paper.specs.declared.answer.Answer.{Answer}
-use Rattle.paper.specs.declared.answer.Answer.TheVariants.{Accepted, Refused}
 use Rattle.paper.specs.Refusals.{Test, test, no3, no4, no7_install, no9, no14, Verdict, Go, Stop, given}
+use Rattle.paper.specs.Answers.{Answer, accepts}
 use Rattle.history.specs.Ranking.{Entry, foremost, keep}
 
 -- ---- what it keeps
@@ -291,10 +290,10 @@ pub record Result : Type 0 where
   pub plain : Plain
 
 abbrev pub accepted : ℕ → ℕ → ℕ → Plain → Result
-accepted v c m p = record { answer = Accepted v c m; plain = p }
+accepted v c m p = record { answer = accepts v c m; plain = p }
 
 abbrev pub refused : Plain → Refusal → Result
-refused p q = record { answer = Refused q; plain = p }
+refused p q = record { answer = Err q; plain = p }
 
 abbrev pub deliver : Plain → Played → ℕ → ℕ → Result
 deliver p d c zero = refused p NothingToDeliver

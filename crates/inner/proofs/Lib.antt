@@ -1,4 +1,3 @@
 pub mod Rows
-pub mod Answering
 pub mod Steps
 pub mod Searching

@@ -1,57 +1,39 @@
 // CODE. The bodies of post interrupt and wait for interrupt. Each tests the refusals of its row in the paper's order, and only then writes.
 #![tactic(auto)]
 
-ghost use Rattle.std.specs.Prelude.{◌≤◌, length};
-ghost use Rattle.board.specs.Board.{total};
 ghost use Rattle.paper.specs.declared.call.Call.TheVariants as calls;
-ghost use Rattle.stores.specs.Answers.{Runs, Makes};
+ghost use Rattle.stores.specs.Answers.{Runner, Made};
 ghost use Rattle.stores.specs.Calls.{stepping};
 
-use board::numbers::{Size, TaskMeant};
+use board::numbers::TaskNo;
 use board::status::Status;
 use changes::{clear_bit, set_bit};
 use inner::refusals::present_task;
-use lent::bytes::task_at;
+use lent::bytes::LentMut;
 use paper::answer::Refusal;
-use stores::Body;
+use stores::{Body, Done};
 
-pub fn post_interrupt(z: Size, l: &mut [u8], k: u16) -> Body
-    requires { total z ≤ length l.old }
-    ensures { Makes result l.new (stepping z l.old (calls.PostInterrupt k)) }
+pub fn post_interrupt(l: &mut LentMut<'_>, k: u16) -> Body
+    ensures { Made result l.old l.new (stepping l.old.size l.old.bytes.now (calls.PostInterrupt k)) }
 {
-    let meant = present_task(z, l, k);
-    let TaskMeant::Task(n) = meant else {
-        return Body::Stopped(Refusal::NoSuchTask);
-    };
-    let t = task_at(z, l, n);
-    let s = t.stat;
-    if s.has(Status::IWAT) {
-        clear_bit(z, l, n, Status::IWAT);
+    let k = present_task(l.read(), k).ok_or(Refusal::NoSuchTask)?;
+    if l.read().task(k).stat.has(Status::IWAT) {
+        clear_bit(l, k, Status::IWAT);
     } else {
-        set_bit(z, l, n, Status::INTQ);
+        set_bit(l, k, Status::INTQ);
     }
-    Body::Done {
-        value: 0,
-        stirred: TaskMeant::Task(n),
-    }
+    Ok(Done::stirs(k))
 }
 
-pub fn wait_for_interrupt(z: Size, l: &mut [u8], c: TaskMeant) -> Body
-    requires { Runs z l.old c }
-    ensures { Makes result l.new (stepping z l.old calls.WaitForInterrupt) }
+pub fn wait_for_interrupt(l: &mut LentMut<'_>, c: Option<TaskNo>) -> Body
+    requires { Runner l.old.size l.old.bytes.now c }
+    ensures { Made result l.old l.new (stepping l.old.size l.old.bytes.now calls.WaitForInterrupt) }
 {
-    let TaskMeant::Task(k) = c else {
-        return Body::Stopped(Refusal::NobodyRuns);
-    };
-    let t = task_at(z, l, k);
-    let s = t.stat;
-    if s.has(Status::INTQ) {
-        clear_bit(z, l, k, Status::INTQ);
+    let c = c.ok_or(Refusal::NobodyRuns)?;
+    if l.read().task(c).stat.has(Status::INTQ) {
+        clear_bit(l, c, Status::INTQ);
     } else {
-        set_bit(z, l, k, Status::IWAT);
+        set_bit(l, c, Status::IWAT);
     }
-    Body::Done {
-        value: 0,
-        stirred: TaskMeant::NoTask,
-    }
+    Ok(Done::rests(0))
 }

@@ -31,7 +31,7 @@ use Rattle.kept.specs.Settled.{FitsMessage, Fits, Settled, Awake, Fitting}
 use Rattle.kept.specs.Claims.{Sizes}
 use Rattle.kept.proofs.Reading.{nth_cases, message-put, message_other, held_placed}
 use Rattle.kept.proofs.Reading.{FitsPlace, fits_message, fits_place, listing_stays, good_stays}
-use Rattle.kept.proofs.Reading.{go_passed, held-row, claim-row}
+use Rattle.kept.proofs.Reading.{go_passed, held_row, claim-row}
 
 -- ---- messages and places written
 -- where each queue is listed as before and R4 holds of each message the board is settled
@@ -151,7 +151,7 @@ module _ (z : Size) (b : Board) (order : List ℕ) (queues : ℕ → List ℕ) (
 
   -- so its row has it
   pub release_settled : (c m : ℕ) → given (own_row z b c (Release m)) ≡ Go → Settled z (release b m) order queues
-  release_settled c m g = settled_release c m (held-row z b c m [] g).1
+  release_settled c m g = settled_release c m (held_row z b c m [] g).1
 
   -- a held message is prepared
   pub settled_prepare : (c m t p sptr : ℕ) → place b m ≡ HeldBy (task_no c) → Byte t → Byte p → Word sptr → sptr ≤ z.tasks
@@ -168,6 +168,6 @@ module _ (z : Size) (b : Board) (order : List ℕ) (queues : ℕ → List ℕ) (
   pub prepare_settled : (c m t p sptr : ℕ) → Fitting (Prepare m t p sptr) → given (own_row z b c (Prepare m t p sptr)) ≡ Go
       → Settled z (prepare b m t p sptr) order queues
   prepare_settled c m t p sptr f g =
-      let r = held-row z b c m (no14 z sptr ∷ []) g in
+      let r = held_row z b c m (no14 z sptr ∷ []) g in
       let n = go_passed (no14 z sptr) [] r.2 in
       settled_prepare c m t p sptr r.1 f.1.0 f.1.1.0 f.0.1.0 (ltb-false z.tasks sptr n.0)

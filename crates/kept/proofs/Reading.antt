@@ -253,9 +253,9 @@ pub held-passed : (b : Board) (c m : ℕ) → (no5 b c m).applies ≡ false → 
 held-passed b c m e = (says_is_held_by c (place b m)).0 (not-false (is_held_by c (place b m)) e)
 
 -- 3, 4 and 5 before others: the running task holds the message
-pub held-row : (z : Size) (b : Board) (c m : ℕ) (tests : List Test) → given (no3 c ∷ no4 z m ∷ no5 b c m ∷ tests) ≡ Go
+pub held_row : (z : Size) (b : Board) (c m : ℕ) (tests : List Test) → given (no3 c ∷ no4 z m ∷ no5 b c m ∷ tests) ≡ Go
     → (c ≢ 0) × (place b m ≡ HeldBy (task_no c)) × (given tests ≡ Go)
-held-row z b c m tests g =
+held_row z b c m tests g =
     let runs = go_passed (no3 c) (no4 z m ∷ no5 b c m ∷ tests) g in
     let holds = go_passed (no5 b c m) tests (go_passed (no4 z m) (no5 b c m ∷ tests) runs.1).1 in
     (runner_passed c runs.0, held-passed b c m holds.0, holds.1)

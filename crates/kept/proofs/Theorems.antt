@@ -9,6 +9,7 @@ use native.Mathlib.Omega.{arith}
 use lib.Dec.{lit<, lit≤}
 use lib.ListN.{get_or}
 use borrow.Author.Tests.{eqb-true, not-false}
+use Rattle.std.specs.Prelude.{Err}
 use Rattle.board.specs.declared.numbers.Size.{Size}
 use Rattle.board.specs.Numbers.{small}
 use Rattle.board.specs.Status.{MHBS, has}
@@ -17,9 +18,7 @@ use Rattle.board.specs.Board.{Board, board_of, task}
 use Rattle.board.specs.Claims.{Bytes}
 use Rattle.paper.specs.declared.call.Call.{Call}
 use Rattle.paper.specs.declared.answer.Refusal.TheVariants.{NothingToDeliver}
-use Rattle.paper.specs.declared.answer.Answer.{Answer}
-use Rattle.paper.specs.declared.answer.Answer.TheVariants.{Refused}
-use Rattle.paper.specs.Answers.{number_of, handed}
+use Rattle.paper.specs.Answers.{number_of, handed, Answer}
 use Rattle.paper.specs.Rules.{order, passes}
 use Rattle.paper.specs.Refusals.{no1, no2, own_row, row, Verdict, Go, Stop, given}
 use Rattle.paper.specs.Outcomes.{Outcome, Undispatched, judge, body, dispatch, effect}
@@ -68,7 +67,7 @@ module _ (z : Size) (l : List ℕ) (d : Undispatched) (q : List ℕ) (queues : �
   t = dispatched z q l queues d.value d.board a s
 
   -- it isn't refused
-  pub dispatch-accepts : (dispatch z l d).answer ≢ Refused NothingToDeliver
+  pub dispatch-accepts : (dispatch z l d).answer ≢ Err NothingToDeliver
   dispatch-accepts r =
       let x : (handed (dispatch z l d).answer).number ≡ 0 = ap (λ (o : Outcome). (handed o.answer).number) t.ends in
       let y : (handed (dispatch z l d).answer).number ≡ 15 = ap (λ (x : Answer). (handed x).number) r in
@@ -119,7 +118,7 @@ module _ (z : Size) (l : List ℕ) (call : Call) (a : Sizes z) (h : (i : ℕ) �
 
   -- it isn't refused at dispatch
   by_verdict : (v : Verdict) → given (row z l b b.running call) ≡ v
-      → (judge l v (dispatch z l d)).answer ≢ Refused NothingToDeliver
+      → (judge l v (dispatch z l d)).answer ≢ Err NothingToDeliver
   by_verdict Go e = let (queues, s) = settles e in dispatch-accepts z l d order_then queues a s
   by_verdict (Stop q) e = λ r.
       let x : number_of q ≡ 15 = ap (λ (x : Answer). (handed x).number) r in

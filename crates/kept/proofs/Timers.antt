@@ -35,7 +35,7 @@ use Rattle.kept.specs.Settled.{Settled, Fitting}
 use Rattle.kept.specs.Touched.{touched, Frame}
 use Rattle.kept.specs.Claims.{Sizes, CallsLeaveTheTimer}
 use Rattle.kept.proofs.Reading.{nth_cases, place-put, held_placed, queued_placed, relink_keeps, first_holds}
-use Rattle.kept.proofs.Reading.{queue-walked, held-row, claim-row}
+use Rattle.kept.proofs.Reading.{queue-walked, held_row, claim-row}
 use Rattle.kept.proofs.Fitting.{board-bytes}
 use Rattle.kept.proofs.Taking.{cancel_message-row}
 use Rattle.kept.proofs.Mail.{placed_place, back_place}
@@ -65,7 +65,7 @@ Clear b d ms = All (λ m. Off b m × Off d m) ms
 placed_clear : (z : Size) (b : Board) (c m r : ℕ) (tests : List Test) → given (no3 c ∷ no4 z m ∷ no5 b c m ∷ tests) ≡ Go
     → Clear b (place_at z b m r) (m ∷ [])
 placed_clear z b c m r tests g =
-    let e = (held-row z b c m tests g).1 in
+    let e = (held_row z b c m tests g).1 in
     ((ap is_on_timer e, ap is_on_timer (placed_place z b m r (placed_numbered b m (held_placed b m c e)))), tt)
 
 -- none comes there where a queue is linked anew and a message held
@@ -114,9 +114,9 @@ module _ (z : Size) (b : Board) (order : List ℕ) (queues : ℕ → List ℕ) (
       let (n, e) = lowest_free_lem b (claim-row b c g).1 in
       ((ap is_on_timer e, ap is_on_timer (place-put b _ (HeldBy (task_no c)) n)), tt)
   body_clear c (Prepare m s p sptr) g =
-      let e = ap is_on_timer (held-row z b c m (no14 z sptr ∷ []) g).1 in ((e, e), tt)
+      let e = ap is_on_timer (held_row z b c m (no14 z sptr ∷ []) g).1 in ((e, e), tt)
   body_clear c (Release m) g =
-      let e = (held-row z b c m [] g).1 in
+      let e = (held_row z b c m [] g).1 in
       let n = placed_numbered b m (held_placed b m c e) in
       ((ap is_on_timer e, ap is_on_timer (place-put (with_message b m no_message) m Free n)), tt)
   body_clear c (Send m r) g = placed_clear z (addressed b c m r) c m r (no6 z b r ∷ []) g

@@ -6,6 +6,7 @@ use mathlib.Core.Bool.{Bool, cond, true≢false}
 use mathlib.Core.List.{List}
 use Prim.Native.Nat.{ℕ, ◌≤◌}
 use native.Mathlib.Omega.{arith}
+use Rattle.std.specs.Prelude.{Err}
 use Rattle.links.proofs.Bools.{cond_holds}
 use Rattle.board.specs.declared.numbers.Size.{Size}
 use Rattle.board.specs.Status.{MHBS, has}
@@ -13,9 +14,7 @@ use Rattle.board.specs.Board.{Board, board_of, bytes_of, task, with_running}
 use Rattle.paper.specs.declared.call.Call.{Call}
 use Rattle.paper.specs.declared.answer.Refusal.{Refusal}
 use Rattle.paper.specs.declared.answer.Refusal.TheVariants.{NothingToDeliver}
-use Rattle.paper.specs.declared.answer.Answer.{Answer}
-use Rattle.paper.specs.declared.answer.Answer.TheVariants.{Accepted, Refused}
-use Rattle.paper.specs.Answers.{number_of, handed}
+use Rattle.paper.specs.Answers.{number_of, handed, accepts, Answer}
 use Rattle.paper.specs.Rules.{task_number, empty_queue, may_run, first_ready, runs_next}
 use Rattle.paper.specs.Refusals.{row, Verdict, Go, Stop, given}
 use Rattle.paper.specs.Outcomes.{Outcome, Undispatched, undispatched, judge, accepted, body, deliver, dispatch_to, dispatch, effect}
@@ -31,19 +30,19 @@ use Rattle.kept.proofs.Theorems.{settles, went}
 -- ---- whom an accepted call tells to run: the answer is Accepted v c m
 module _ (v c m : ℕ) where
   -- a refusal is no acceptance
-  not_refused : (q : Refusal) → Refused q ≡ Accepted v c m → ⊥
+  not_refused : (q : Refusal) → Err q ≡ accepts v c m → ⊥
   not_refused q e = let x : number_of q ≡ 0 = ap (λ (a : Answer). (handed a).number) e in let y = (refusal-number q).0 in omega arith
 
   -- the task that is dispatched
-  dispatched_runs : (z : Size) (l : List ℕ) (d : Undispatched) (k : ℕ) → (dispatch_to z l d k).answer ≡ Accepted v c m → c ≡ k
+  dispatched_runs : (z : Size) (l : List ℕ) (d : Undispatched) (k : ℕ) → (dispatch_to z l d k).answer ≡ accepts v c m → c ≡ k
   dispatched_runs z l d k =
       cond_holds Names (has (task d.board k).stat MHBS) (deliver z l d k) (accepted d.value k 0 (bytes_of d.board))
       (λ e. cond_holds Names (empty_queue d.board k) _ _ (λ i e. absurd (not_refused NothingToDeliver e)) (λ i. named)) (λ e. named)
     where
       Names : Outcome → Type 0
-      Names o = o.answer ≡ Accepted v c m → c ≡ k
+      Names o = o.answer ≡ accepts v c m → c ≡ k
 
-      named : {w n : ℕ} → Accepted w k n ≡ Accepted v c m → c ≡ k
+      named : {w n : ℕ} → accepts w k n ≡ accepts v c m → c ≡ k
       named e = sym (ap (λ (a : Answer). (handed a).running) e)
 
   module _ (z : Size) (l : List ℕ) (call : Call) where
@@ -51,18 +50,18 @@ module _ (v c m : ℕ) where
     d = body z (board_of z l) (board_of z l).running call
 
     -- who runs next after the effect
-    effect-runs : (effect z l call).answer ≡ Accepted v c m → c ≡ runs_next z d.board
+    effect-runs : (effect z l call).answer ≡ accepts v c m → c ≡ runs_next z d.board
     effect-runs = step (given (row z l (board_of z l) (board_of z l).running call))
       where
-        step : (w : Verdict) → (judge l w (dispatch z l d)).answer ≡ Accepted v c m → c ≡ runs_next z d.board
+        step : (w : Verdict) → (judge l w (dispatch z l d)).answer ≡ accepts v c m → c ≡ runs_next z d.board
         step Go e = dispatched_runs z l (undispatched d.value (with_running d.board (runs_next z d.board))) (runs_next z d.board) e
         step (Stop q) e = absurd (not_refused q e)
 
     -- and no refusal stopped it
-    effect_goes : (effect z l call).answer ≡ Accepted v c m → given (row z l (board_of z l) (board_of z l).running call) ≡ Go
+    effect_goes : (effect z l call).answer ≡ accepts v c m → given (row z l (board_of z l) (board_of z l).running call) ≡ Go
     effect_goes e = step (given (row z l (board_of z l) (board_of z l).running call)) e
       where
-        step : (w : Verdict) → (judge l w (dispatch z l d)).answer ≡ Accepted v c m → w ≡ Go
+        step : (w : Verdict) → (judge l w (dispatch z l d)).answer ≡ accepts v c m → w ≡ Go
         step Go e = refl
         step (Stop q) e = absurd (not_refused q e)
 

@@ -14,7 +14,7 @@
 --                       placed on the timer
 --   CallsLeaveTheTimer  none of the nineteen calls puts a message on the timer or takes one off, and of one that is there it changes nothing
 -- Assumes nothing.
-use Rattle.std.specs.Prelude.{◌≡◌, ◌≢◌, true, false, List, [], ◌∷◌, ℕ, ◌≤◌, ◌<◌, get_or}
+use Rattle.std.specs.Prelude.{◌≡◌, ◌≢◌, true, false, List, [], ◌∷◌, ℕ, ◌≤◌, ◌<◌, get_or, Err}
 use Rattle.board.specs.declared.numbers.Size.{Size}
 use Rattle.board.specs.Numbers.{Numbered}
 use Rattle.board.specs.Status.{MHBS, has}
@@ -24,11 +24,11 @@ use Rattle.board.specs.Board.{Board, board_of, task, message, place}
 use Rattle.board.specs.Claims.{Bytes}
 use Rattle.paper.specs.declared.call.Call.{Call}
 use Rattle.paper.specs.declared.answer.Refusal.TheVariants.{NothingToDeliver}
-use Rattle.paper.specs.declared.answer.Answer.TheVariants.{Accepted, Refused}
 use Rattle.paper.specs.Rules.{queue, task_number, ready, passes}
 use Rattle.paper.specs.Changes.{clears, take_first}
 use Rattle.paper.specs.Refusals.{own_row, Go, given}
 use Rattle.paper.specs.Outcomes.{body, effect}
+use Rattle.paper.specs.Answers.{accepts}
 use Rattle.linked.specs.Sound.{Leads, RunsRightly}
 use Rattle.linked.specs.Claims.{Whereabouts}
 use Rattle.kept.specs.Settled.{Settled, Awake, Fitting}
@@ -61,7 +61,7 @@ DispatchFrame =
 abbrev pub NeverStuck : Type 0
 NeverStuck =
     (z : Size) (l : List ℕ) (call : Call) → Sizes z → ((i : ℕ) → Byte (get_or l i 0)) → Fitting call
-    → (effect z l call).answer ≢ Refused NothingToDeliver
+    → (effect z l call).answer ≢ Err NothingToDeliver
 
 abbrev pub PassingStaysPassing : Type 0
 PassingStaysPassing =
@@ -75,25 +75,25 @@ effected z l call = let b = board_of z l in (body z b b.running call).board
 abbrev pub RightlyChosen : Type 0
 RightlyChosen =
     (z : Size) (l : List ℕ) (call : Call) (v c m : ℕ) → Sizes z → ((i : ℕ) → Byte (get_or l i 0)) → Fitting call
-    → let o = effect z l call in o.answer ≡ Accepted v c m
+    → let o = effect z l call in o.answer ≡ accepts v c m
     → RunsRightly (effected z l call) c × ((board_of z o.after).running ≡ c)
 
 abbrev pub EqualNeverPushes : Type 0
 EqualNeverPushes =
-    (z : Size) (l : List ℕ) (call : Call) (v c m : ℕ) → (effect z l call).answer ≡ Accepted v c m
+    (z : Size) (l : List ℕ) (call : Call) (v c m : ℕ) → (effect z l call).answer ≡ accepts v c m
     → let ran = (board_of z l).running in Leads (effected z l call) ran → c ≡ ran
 
 abbrev pub SmallerRunsAtOnce : Type 0
 SmallerRunsAtOnce =
     (z : Size) (l : List ℕ) (call : Call) (v c m : ℕ) → Sizes z → ((i : ℕ) → Byte (get_or l i 0)) → Fitting call
-    → (effect z l call).answer ≡ Accepted v c m → let d = effected z l call in let ran = (board_of z l).running in
+    → (effect z l call).answer ≡ accepts v c m → let d = effected z l call in let ran = (board_of z l).running in
     (k : ℕ) → ready d k ≡ true → task_number d k < task_number d ran → Leads d c × (c ≢ ran)
 
 -- ---- demand 2, its last sentence
 abbrev pub EveryBlockOnce : Type 0
 EveryBlockOnce =
     (z : Size) (l : List ℕ) (call : Call) (v c m : ℕ) → Sizes z → ((i : ℕ) → Byte (get_or l i 0)) → Fitting call
-    → let o = effect z l call in o.answer ≡ Accepted v c m
+    → let o = effect z l call in o.answer ≡ accepts v c m
     → (n : ℕ) → Numbered z.messages n → Whereabouts z (board_of z o.after) n
 
 -- ---- a message on the timer: document 02, Ask 5

@@ -1,3 +1,1 @@
 pub mod Access
-mod ByWord
-mod Fields

@@ -1,55 +1,49 @@
 // The record or place that a word means: an argument, a number that a loop counts. The word becomes a task or message number by
-// its range test; one that names nothing of the board gives the record of zeros, or a place that is free.
-ghost use Rattle.std.specs.Prelude.{◌≡◌, ◌≤◌, length};
+// its range test; one that names nothing of the board gives the record of zeros, or a place that is free. Each is a match: a
+// closure for `map_or` would have to say the reader's contract again.
+ghost use Rattle.std.specs.Prelude.{◌≡◌};
 ghost use Rattle.board.specs.Places.{is_on_timer};
-ghost use Rattle.board.specs.Board.{total, board_of, task, message, place};
+ghost use Rattle.board.specs.Board.{task, message, place};
+ghost use Rattle.lent.specs.Lent.{board};
 
-use crate::bytes::{message_at, on_timer, place_at, task_at};
-use board::numbers::{MessageMeant, MsgNo, Size, TaskMeant, TaskNo};
+use crate::bytes::Lent;
+use board::numbers::{MsgNo, TaskNo};
 use board::places::Place;
 use board::records::{Message, Task};
 
-pub fn task_meant(z: Size, l: &[u8], w: u16) -> Task
-    requires { total z ≤ length l.now }
-    ensures { result ≡ task (board_of z l.now) w }
+pub fn task_meant(b: Lent<'_>, w: u16) -> Task
+    ensures { result ≡ task (board b.entry) w }
 {
-    let meant = TaskNo::meant(z, w);
-    let TaskMeant::Task(k) = meant else {
-        return Task::none();
-    };
-    task_at(z, l, k)
+    match TaskNo::meant(b.size, w) {
+        Some(k) => b.task(k),
+        None => Task::none(),
+    }
 }
 
-pub fn message_meant(z: Size, l: &[u8], w: u16) -> Message
-    requires { total z ≤ length l.now }
-    ensures { result ≡ message (board_of z l.now) w }
+pub fn message_meant(b: Lent<'_>, w: u16) -> Message
+    ensures { result ≡ message (board b.entry) w }
 {
-    let meant = MsgNo::meant(z, w);
-    let MessageMeant::Message(m) = meant else {
-        return Message::none();
-    };
-    message_at(z, l, m)
+    match MsgNo::meant(b.size, w) {
+        Some(m) => b.message(m),
+        None => Message::none(),
+    }
 }
 
-pub fn place_meant(z: Size, l: &[u8], w: u16) -> Place
-    requires { total z ≤ length l.now }
-    ensures { result ≡ place (board_of z l.now) w }
+pub fn place_meant(b: Lent<'_>, w: u16) -> Place
+    ensures { result ≡ place (board b.entry) w }
 {
-    let meant = MsgNo::meant(z, w);
-    let MessageMeant::Message(m) = meant else {
-        return Place::Free;
-    };
-    place_at(z, l, m)
+    match MsgNo::meant(b.size, w) {
+        Some(m) => b.place(m),
+        None => Place::Free,
+    }
 }
 
 // The message is on the timer.
-pub fn is_timed(z: Size, l: &[u8], w: u16) -> bool
-    requires { total z ≤ length l.now }
-    ensures { result ≡ is_on_timer (place (board_of z l.now) w) }
+pub fn is_timed(b: Lent<'_>, w: u16) -> bool
+    ensures { result ≡ is_on_timer (place (board b.entry) w) }
 {
-    let meant = MsgNo::meant(z, w);
-    let MessageMeant::Message(m) = meant else {
-        return false;
-    };
-    on_timer(z, l, m)
+    match MsgNo::meant(b.size, w) {
+        Some(m) => b.on_timer(m),
+        None => false,
+    }
 }

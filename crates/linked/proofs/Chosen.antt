@@ -10,12 +10,12 @@ use native.Mathlib.Decide.{ℕ_discrete}
 use lib.ListN.{length}
 use lib.Dec.{eqb, ltb}
 use borrow.Author.Tests.{eqb-true, eq-eqb, ne_eqb, ltb-false, le-ltb}
+use Rattle.std.specs.Prelude.{Some, None}
 use Rattle.links.specs.Queue.{each}
 use Rattle.links.specs.Chain.{In}
 use Rattle.links.proofs.Bools.{refuted, both, and_true, cond_holds, each_all}
 use Rattle.links.proofs.Members.{not_in_out}
 use Rattle.board.specs.declared.numbers.Size.{Size}
-use Rattle.board.specs.declared.numbers.TaskMeant.TheVariants.{Task, NoTask}
 use Rattle.board.specs.Numbers.{Numbered, task_no, task_meant, number_of_task}
 use Rattle.board.specs.Status.{MHBS, has}
 use Rattle.board.specs.Records.{no_task}
@@ -85,7 +85,7 @@ module _ (z : Size) (b : Board) (tasks : length b.tasks ≡ z.tasks) where
       step (yes e) = ap (λ (k : ℕ). number_of_task (task_meant z k)) e ∙ sym e
       step (no n) =
           let i = ready_numbered c (h n) in
-          ap (λ (t : Bool). number_of_task (cond t NoTask (Task (task_no c)))) (within-outside z.tasks c i.0 i.1)
+          ap (λ (t : Bool). number_of_task (cond t None (Some (task_no c)))) (within-outside z.tasks c i.0 i.1)
 
   -- so the first ready one
   pub first_meant : number_of_task (task_meant z (first_ready z b)) ≡ first_ready z b

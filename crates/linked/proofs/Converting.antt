@@ -19,8 +19,7 @@ use Rattle.board.specs.Board.{Board, total, board_of, task, place, with_running}
 use Rattle.board.specs.Writes.{put_running}
 use Rattle.board.proofs.Codec.{length-tasks}
 use Rattle.board.proofs.Written.{board-put-running}
-use Rattle.paper.specs.declared.answer.Answer.{Answer}
-use Rattle.paper.specs.Answers.{handed}
+use Rattle.paper.specs.Answers.{handed, Answer}
 use Rattle.paper.specs.Rules.{order, queue, first_ready, rule1, rules2to6, rule7, passes, rule4_at, rule2_at, rule3, rule5_at}
 use Rattle.paper.specs.Effects.{find}
 use Rattle.paper.specs.Refusals.{no1, Verdict, Go, Stop, given}

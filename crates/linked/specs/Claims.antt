@@ -10,13 +10,13 @@ use Rattle.std.specs.Prelude.{◌≡◌, ◌≢◌, ◌↔◌, true, List, ℕ, 
 use Rattle.links.specs.Chain.{In, Out, Once}
 use Rattle.board.specs.declared.numbers.Size.{Size}
 use Rattle.board.specs.declared.places.Place.TheVariants.{Free, HeldBy, QueuedAt, OnTimer}
-use Rattle.paper.specs.declared.answer.Answer.TheVariants.{Accepted}
 use Rattle.board.specs.Numbers.{task_no, Numbered}
 use Rattle.board.specs.Records.{no_message}
 use Rattle.board.specs.Board.{Board, board_of, message, place}
 use Rattle.paper.specs.Rules.{present, order, queue, passes}
 use Rattle.paper.specs.Effects.{find}
 use Rattle.paper.specs.Conversion.{convert}
+use Rattle.paper.specs.Answers.{accepts}
 use Rattle.linked.specs.Linked.{Linked}
 use Rattle.linked.specs.Sound.{Sound}
 
@@ -48,7 +48,7 @@ OneWhereabouts =
 -- ---- the conversion of a saved board
 abbrev pub ConvertedPasses : Type 0
 ConvertedPasses =
-    (z : Size) (l : List ℕ) (v c m : ℕ) → (convert z l).answer ≡ Accepted v c m
+    (z : Size) (l : List ℕ) (v c m : ℕ) → (convert z l).answer ≡ accepts v c m
     → let d = board_of z (convert z l).after in (passes z d ≡ true) × (d.running ≡ c)
 
 abbrev pub OnlyByte1 : Type 0

@@ -14,11 +14,11 @@ use Rattle.board.specs.Board.{Board, total, board_of, bytes_of}
 use Rattle.paper.specs.declared.call.Call.{Call}
 use Rattle.paper.specs.declared.answer.Rule.{Rule}
 use Rattle.paper.specs.declared.answer.Refusal.TheVariants.{WrongLength, RuleBroken}
-use Rattle.paper.specs.declared.answer.Answer.TheVariants.{Accepted}
 use Rattle.paper.specs.Rules.{passes}
 use Rattle.paper.specs.Named.{broken_rule}
 use Rattle.paper.specs.Refusals.{Test, test, no1, no2, own_row, row, Verdict, Go, Stop, given}
 use Rattle.paper.specs.Outcomes.{Outcome, accepted, judge, Undispatched, body, dispatch, effect}
+use Rattle.paper.specs.Answers.{accepts}
 use Rattle.kept.specs.Settled.{Fitting}
 use Rattle.kept.specs.Claims.{Sizes}
 use Rattle.kept.proofs.Reading.{go_passed}
@@ -100,7 +100,7 @@ ends_agree z l d x y v e s t =
     let given = same (delivered z) (delivered-bare z) b c alike in
     let lefts = same (λ b. bare_board (left z b)) (left_alike z) b c alike in
     rw (s.ends, t.ends) (
-      λ i. Accepted (v i) (alike i).running (given i),
+      λ i. accepts (v i) (alike i).running (given i),
       record {
         long = s.returns.0.long ∙ sym t.returns.0.long;
         boards = ap bare_board s.returns.1 ∙ lefts ∙ sym (ap bare_board t.returns.1);

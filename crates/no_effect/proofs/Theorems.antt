@@ -5,10 +5,10 @@ use mathlib.Core.List.{List, [], ◌∷◌}
 use Prim.Native.Nat.{ℕ}
 use Rattle.board.specs.declared.numbers.Size.{Size}
 use Rattle.board.specs.Board.{Board, board_of}
-use Rattle.paper.specs.declared.answer.Answer.TheVariants.{Accepted}
 use Rattle.paper.specs.declared.call.Call.TheVariants.{Install}
 use Rattle.paper.specs.Refusals.{no1, no2, own_row, given}
 use Rattle.paper.specs.Outcomes.{check}
+use Rattle.paper.specs.Answers.{accepts}
 use Rattle.bare.specs.Bare.{bare_board}
 use Rattle.kept.proofs.Reading.{install-row}
 use Rattle.kept.proofs.Bodies.{body_blind}
@@ -21,7 +21,7 @@ checks_agree z l d e =
     let b = board_of z l in
     let c = board_of z d in
     judge_agree z l d (given (no1 z l ∷ no2 z b ∷ [])) (given (no1 z d ∷ no2 z c ∷ [])) _ _ e (verdicts z l d [] [] e refl)
-    (λ g n. (ap (λ (d : Board). Accepted 0 d.running 0) e.boards, e))
+    (λ g n. (ap (λ (d : Board). accepts 0 d.running 0) e.boards, e))
 
 pub debug_and_mrob_have_no_effect : DebugAndMrobHaveNoEffect
 debug_and_mrob_have_no_effect z l d call a h k w e =

@@ -1,163 +1,116 @@
 // R3: the links of the task queue visit every present task, and priority numbers never fall. The walk meets the first ready
 // task on its way, of which R7 asks.
-ghost use Rattle.std.specs.Prelude.{◌≡◌, false, ◌-◌, ◌≤◌, length};
-ghost use Rattle.board.specs.Numbers.{outside};
-ghost use Rattle.board.specs.Board.{total, board_of};
-ghost use Rattle.order_rules.specs.Order.{task_turned, order_visited, with_ready, order_from, listed_by};
+ghost use Rattle.std.specs.Prelude.{◌≡◌, Some};
+ghost use Rattle.board.specs.Numbers.{task_meant};
+ghost use Rattle.lent.specs.Lent.{board};
+ghost use Rattle.paper.specs.Rules.{present, next_task, task_number};
+ghost use Rattle.order_rules.specs.Order.{task_turned, order_from, listed_by};
+ghost use Rattle.order_rules.specs.Tasks.{task_means, task_beyond};
 
-use board::numbers::{Size, TaskMeant, TaskNo};
+use board::numbers::TaskNo;
 use board::priority::number;
-use lent::bytes::{first_task, no_tasks, task_at};
-use queue_rules::Walked;
+use lent::bytes::{Lent, no_tasks};
+use paper::answer::Rule;
+use queue_rules::walk::{Queue, Turn, walk};
 
-// One link followed: on to the next task, with the priority number of this one; to the end; or a task that does not belong there, or a
-// link that leads beyond the board.
+// The task queue.
 #[derive(Clone, Copy)]
-pub enum TaskTurn {
-    Next { k: TaskNo, low: u8 },
-    End,
-    Stray,
+struct TaskQueue<'a> {
+    l: Lent<'a>,
 }
 
-// The whole walk: how many tasks it saw and the first ready one, or that it strayed or did not end.
-#[derive(Clone, Copy)]
-pub enum OrderWalked {
-    Seen { n: u32, c: TaskMeant },
-    Broken,
-}
+impl<'a> Queue for TaskQueue<'a> {
+    type At = TaskNo;
 
-// R3: the task queue is in order, and this is its first ready task; or it is broken.
-#[derive(Clone, Copy)]
-pub enum Order {
-    Listed(TaskMeant),
-    Broken,
-}
+    ghost meant = { λ q. task_meant q.l.size };
 
-fn task_turn(z: Size, l: &[u8], k: TaskNo, low: u8) -> TaskTurn
-    requires { total z ≤ length l.now }
-    ensures { result ≡ task_turned z (board_of z l.now) k.0 low }
-{
-    let t = task_at(z, l, k);
-    if !t.present() {
-        return TaskTurn::Stray;
-    }
-    let p = number(t.prio);
-    if p < low {
-        return TaskTurn::Stray;
-    }
-    if t.link == 0 {
-        return TaskTurn::End;
-    }
-    let next = t.next(z);
-    let TaskMeant::Task(j) = next else {
-        return TaskTurn::Stray;
-    };
-    TaskTurn::Next { k: j, low: p }
-}
+    ghost next = { λ q. next_task (board q.l) };
 
-// The walk from task k on, behind so many seen and the priority number low, of at most so many tasks in all.
-fn walk_on(z: Size, l: &[u8], from: TaskNo, least: u8, before: u32, most: u32) -> Walked
-    requires { (total z ≤ length l.now) × (outside z.tasks from.0 ≡ false) }
-    ensures { result ≡ order_visited (board_of z l.now) (most - before) from.0 least before }
-{
-    let mut k = from;
-    let mut low = least;
-    let mut seen = before;
-    while seen < most {
-        seen += 1;
-        let turn = task_turn(z, l, k, low);
-        match turn {
-            TaskTurn::Next { k: j, low: p } => {
-                k = j;
-                low = p;
-            }
-            TaskTurn::End => {
-                return Walked::Seen(seen);
-            }
-            TaskTurn::Stray => {
-                return Walked::Broken;
-            }
+    ghost rank = { λ q. task_number (board q.l) };
+
+    ghost good = { λ q. present (board q.l) };
+
+    ghost means = { λ q. task_means q.l.size };
+
+    ghost beyond = { λ q. task_beyond q.l.size q.l.bytes.now };
+
+    fn turn(self, k: TaskNo, low: u8) -> Turn<TaskNo>
+        ensures { result ≡ task_turned self.entry.l.size (board self.entry.l) k.0 low }
+    {
+        let t = self.l.task(k);
+        if !t.present() {
+            return Turn::Stray;
+        }
+        let p = number(t.prio);
+        if p < low {
+            return Turn::Stray;
+        }
+        if t.link == 0 {
+            return Turn::End;
+        }
+        match t.next(self.l.size) {
+            Some(j) => Turn::Next { at: j, low: p },
+            None => Turn::Stray,
         }
     }
-    Walked::Broken
 }
 
-// What the walk saw, and c is the first ready task.
-fn with_ready(w: Walked, c: TaskMeant) -> OrderWalked
-    ensures { result ≡ with_ready w c }
-{
-    match w {
-        Walked::Seen(n) => OrderWalked::Seen { n: n, c: c },
-        Walked::Broken => OrderWalked::Broken,
-    }
+// A walk that ended: how many tasks it saw, and the first ready one.
+#[derive(Clone, Copy)]
+pub struct Seen {
+    n: u32,
+    c: Option<TaskNo>,
 }
 
 // The walk from the first task on, of at most so many, up to the first that is ready; from there on it looks for none.
-fn walk_from(z: Size, l: &[u8], first: TaskNo, limit: u32) -> OrderWalked
-    requires { (total z ≤ length l.now) × (outside z.tasks first.0 ≡ false) }
-    ensures { result ≡ order_from z (board_of z l.now) limit first.0 }
+fn walk_from(l: Lent<'_>, first: TaskNo, limit: u32) -> Option<Seen>
+    requires { task_meant l.size first.0 ≡ Some first }
+    ensures { result ≡ order_from l.entry.size (board l.entry) limit first.0 }
 {
+    let queue = TaskQueue { l };
     let mut k = first;
-    let mut low: u8 = 0;
-    let mut seen: u32 = 0;
-    while seen < limit {
-        let t = task_at(z, l, k);
-        if t.ready() {
-            return with_ready(walk_on(z, l, k, low, seen, limit), TaskMeant::Task(k));
+    let mut low = 0;
+    for seen in 0..limit {
+        if l.task(k).ready() {
+            let n = walk(queue, k, low, seen, limit)?;
+            return Some(Seen { n, c: Some(k) });
         }
-        seen += 1;
-        let turn = task_turn(z, l, k, low);
-        match turn {
-            TaskTurn::Next { k: j, low: p } => {
+        match queue.turn(k, low) {
+            Turn::Next { at: j, low: p } => {
                 k = j;
                 low = p;
             }
-            TaskTurn::End => {
-                return with_ready(Walked::Seen(seen), TaskMeant::NoTask);
+            Turn::End => {
+                return Some(Seen {
+                    n: seen + 1,
+                    c: None,
+                });
             }
-            TaskTurn::Stray => {
-                return OrderWalked::Broken;
+            Turn::Stray => {
+                return None;
             }
         }
     }
-    OrderWalked::Broken
+    None
 }
 
-fn walk_tasks(z: Size, l: &[u8], most: u32) -> OrderWalked
-    requires { total z ≤ length l.now }
-    ensures { result ≡ order_from z (board_of z l.now) most (board_of z l.now).first }
+fn walk_tasks(l: Lent<'_>, most: u32) -> Option<Seen>
+    ensures { result ≡ order_from l.entry.size (board l.entry) most (board l.entry).first }
 {
-    if no_tasks(l) {
-        return OrderWalked::Seen {
-            n: 0,
-            c: TaskMeant::NoTask,
-        };
+    if no_tasks(l.bytes) {
+        return Some(Seen { n: 0, c: None });
     }
-    let meant = first_task(z, l);
-    let TaskMeant::Task(first) = meant else {
-        return OrderWalked::Broken;
-    };
-    walk_from(z, l, first, most)
+    walk_from(l, l.first_task()?, most)
 }
 
-// So many, but no more than the limit.
-fn up_to(limit: u16, n: u16) -> u16
-    ensures { (result ≤ limit) × ((n ≤ limit) → result ≡ n) }
+// R3, where so many tasks are present: the task queue is in order if the walk saw as many, and this is its first ready task. It goes no
+// further than that: links that lead back are soon given up.
+pub fn rule3(l: Lent<'_>, present: u16) -> Result<Option<TaskNo>, Rule>
+    ensures { result ≡ listed_by present (order_from l.entry.size (board l.entry) l.entry.size.messages (board l.entry).first) }
 {
-    if n < limit { n } else { limit }
-}
-
-// R3, where so many tasks are present: the walk saw as many. It goes no further than that: links that lead back are soon given up.
-pub fn rule3(z: Size, l: &[u8], present: u16) -> Order
-    requires { total z ≤ length l.now }
-    ensures { result ≡ listed_by present (order_from z (board_of z l.now) z.messages (board_of z l.now).first) }
-{
-    let walked = walk_tasks(z, l, up_to(z.messages, present) as u32);
-    let OrderWalked::Seen { n: seen, c: c } = walked else {
-        return Order::Broken;
-    };
-    if seen == present as u32 {
-        return Order::Listed(c);
+    let most = present.min(l.size.messages);
+    match walk_tasks(l, most as u32) {
+        Some(seen) if seen.n == present as u32 => Ok(seen.c),
+        _ => Err(Rule::R3),
     }
-    Order::Broken
 }

@@ -10,11 +10,11 @@ use Rattle.board.specs.declared.numbers.Size.{Size}
 use Rattle.board.specs.Numbers.{small}
 use Rattle.board.specs.Board.{total}
 use Rattle.paper.specs.declared.call.Call.{Call}
-use Rattle.paper.specs.declared.answer.Answer.{Answer}
 use Rattle.paper.specs.declared.answer.Refusal.TheVariants.{WrongLength}
 use Rattle.paper.specs.Refusals.{test, given}
 use Rattle.paper.specs.Outcomes.{accepted, judge, blank, effect, fresh}
 use Rattle.paper.specs.History.{run, Made}
+use Rattle.paper.specs.Answers.{Answer}
 
 -- ---- some calls, and then others
 -- the bytes after them

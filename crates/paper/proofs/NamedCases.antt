@@ -2,6 +2,7 @@
 -- Assumes nothing.
 use mathlib.Core.Path.{◌≡◌, refl}
 use lib.ListN.{set}
+use Rattle.std.specs.Prelude.{Err}
 use Rattle.board.specs.declared.places.Place.TheVariants.{QueuedAt}
 use Rattle.board.specs.Numbers.{task_no, msg_no}
 use Rattle.board.specs.Status.{WAIT, IWAT, MHBS}
@@ -11,11 +12,10 @@ use Rattle.paper.specs.declared.call.Call.TheVariants.{Find}
 use Rattle.paper.specs.declared.answer.Rule.{Rule}
 use Rattle.paper.specs.declared.answer.Rule.TheVariants.{R1, R2, R3, R4, R5, R6, R7}
 use Rattle.paper.specs.declared.answer.Refusal.TheVariants.{RuleBroken}
-use Rattle.paper.specs.declared.answer.Answer.{Answer}
-use Rattle.paper.specs.declared.answer.Answer.TheVariants.{Refused}
 use Rattle.paper.specs.Changes.{sets, link_message, with_mptr}
 use Rattle.paper.specs.Outcomes.{effect, check}
 use Rattle.paper.proofs.Slips.{tiny, two_queues}
+use Rattle.paper.specs.Answers.{Answer}
 
 -- a board that passes: task 1 has the queue 2, 4 and task 2 the queue 3; task 3 is absent and message 1 free
 abbrev sound : Board
@@ -25,7 +25,7 @@ abbrev checked : Board → Answer
 checked b = (check tiny (bytes_of b)).answer
 
 abbrev broken : Rule → Answer
-broken r = Refused (RuleBroken r)
+broken r = Err (RuleBroken r)
 
 -- ---- each rule, with its record
 -- byte 2 isn't zero

@@ -9,6 +9,7 @@ use native.Mathlib.Decide.{ℕ_discrete}
 use lib.ListN.{length, get_or}
 use lib.Dec.{leb, lit≤}
 use borrow.Author.Tests.{leb-true, leb-false, eqb-true, not-false, not-true}
+use Rattle.std.specs.Prelude.{Err, Ok}
 use Rattle.links.specs.Queue.{ends, which, rearranged, rising, each, smallest_failing}
 use Rattle.links.specs.Chain.{In, Out, All}
 use Rattle.links.proofs.Bools.{refuted, and_true, cond_holds, each_at, each_fails}
@@ -25,9 +26,7 @@ use Rattle.paper.specs.declared.answer.Rule.{Rule}
 use Rattle.paper.specs.declared.answer.Rule.TheVariants.{R1, R2, R3, R4, R5, R6, R7}
 use Rattle.paper.specs.declared.answer.Refusal.{Refusal}
 use Rattle.paper.specs.declared.answer.Refusal.TheVariants.{RuleBroken}
-use Rattle.paper.specs.declared.answer.Answer.{Answer}
-use Rattle.paper.specs.declared.answer.Answer.TheVariants.{Accepted, Refused}
-use Rattle.paper.specs.Answers.{rule_number, record_number, told, number_of, handed}
+use Rattle.paper.specs.Answers.{rule_number, record_number, told, number_of, handed, Answer, accepts}
 use Rattle.paper.specs.Rules.{next_message, message_number, queue, rules2to6, passes}
 use Rattle.paper.specs.Rules.{rule2_at, rule3, rule5_at, rule6_at}
 use Rattle.paper.specs.Named.{unless, broken2to6, broken_rule}
@@ -50,14 +49,14 @@ module _ (z : Size) (l : List ℕ) (r : Rule) (passed : Bool) (tests : List Test
   answered o = (judge l (given all) o).answer
 
   -- there it is given, and names the rule
-  gives_2 : (o : Outcome) → length l ≡ total z → passed ≡ false → answered o ≡ Refused (RuleBroken r)
+  gives_2 : (o : Outcome) → length l ≡ total z → passed ≡ false → answered o ≡ Err (RuleBroken r)
   gives_2 o long broken = ap (λ (v : Verdict). (judge l v o).answer) (rule_broken z l r passed tests long broken)
 
   -- it is given nowhere else, where the tests behind it are above 2
   only_there : All (λ t. 2 < number_of t.refusal) tests → (a : Answer) → Given a all → (handed a).number ≡ 2
       → (length l ≡ total z) × (passed ≡ false)
-  only_there above (Accepted v c m) g n = absurd (omega arith)
-  only_there above (Refused q) g n = go (g (λ e. let k = ap number_of e in omega arith))
+  only_there above (Ok a) g n = absurd (omega arith)
+  only_there above (Err q) g n = go (g (λ e. let k = ap number_of e in omega arith))
     where
       go : First q all → (length l ≡ total z) × (passed ≡ false)
       go (inl (a, e)) = let k = ap number_of e in absurd (omega arith)
@@ -228,8 +227,8 @@ no_record q i none e = step (ℕ_discrete (number_of q) 2)
     step (no other) = (others_told q other).1
 
 pub rule_only_with_2 : RuleOnlyWith2
-rule_only_with_2 (Accepted v c m) = ((λ e. absurd (omega arith)), (λ n. refl), (λ e. refl), (λ e. refl), λ e. refl)
-rule_only_with_2 (Refused q) = (
+rule_only_with_2 (Ok a) = ((λ e. absurd (omega arith)), (λ n. refl), (λ e. refl), (λ e. refl), λ e. refl)
+rule_only_with_2 (Err q) = (
   (λ two. let (r, is) = number_2 q two in subst (λ (x : Refusal). Numbered 7 (told x).rule) (sym is) (rule_number_lem r)),
   (λ other. (others_told q other).0),
   no_record q 0 (λ n. refl),

@@ -3,23 +3,23 @@
 use mathlib.Core.Path.{◌≡◌, refl}
 use mathlib.Core.List.{List, [], ◌∷◌, ◌++◌}
 use Prim.Native.Nat.{ℕ}
+use Rattle.std.specs.Prelude.{Err}
 use Rattle.board.specs.Status.{MHBS}
 use Rattle.board.specs.Board.{board_of, bytes_of, with_running}
 use Rattle.paper.specs.declared.call.Call.{Call}
 use Rattle.paper.specs.declared.call.Call.TheVariants.{Install, PostInterrupt, CancelTask, Claim, Prepare, Send, SendAndWait}
 use Rattle.paper.specs.declared.call.Call.TheVariants.{ReceiveAndWait, WaitForInterrupt}
-use Rattle.paper.specs.declared.answer.Answer.{Answer}
-use Rattle.paper.specs.declared.answer.Answer.TheVariants.{Accepted, Refused}
 use Rattle.paper.specs.declared.answer.Rule.TheVariants.{R1, R7}
 use Rattle.paper.specs.declared.answer.Refusal.TheVariants.{RuleBroken, NobodyRuns}
 use Rattle.paper.specs.Changes.{sets}
 use Rattle.paper.specs.Outcomes.{accepted, refused, check}
 use Rattle.paper.specs.Conversion.{convert}
 use Rattle.paper.proofs.Slips.{tiny, answers_to, after, two_queues}
+use Rattle.paper.specs.Answers.{Answer, accepts}
 
 -- the task c runs on, or then
 abbrev runs : ℕ → Answer
-runs c = Accepted 0 c 0
+runs c = accepts 0 c 0
 
 -- task 1 of this PRIO waits for an interrupt, and task 2, of PRIO 33H, runs
 abbrev samplers : ℕ → List Call
@@ -64,7 +64,7 @@ case_other_cancelled = refl
 
 -- nobody is ready: byte 1 is 0, and 3 is given; then the one that is posted runs
 case_nobody_ready :
-    answers_to (samplers 0x33 ++ (WaitForInterrupt ∷ Claim ∷ PostInterrupt 2 ∷ [])) ≡ sampling ++ (runs 0 ∷ Refused NobodyRuns ∷ runs 2 ∷ [])
+    answers_to (samplers 0x33 ++ (WaitForInterrupt ∷ Claim ∷ PostInterrupt 2 ∷ [])) ≡ sampling ++ (runs 0 ∷ Err NobodyRuns ∷ runs 2 ∷ [])
 case_nobody_ready = refl
 
 case_byte_1_zero : (board_of tiny (after (samplers 0x33 ++ (WaitForInterrupt ∷ [])))).running ≡ 0
@@ -76,10 +76,10 @@ abbrev mail : List Call
 mail = Install 1 0x01 0x33 0 0 ∷ Install 2 0x01 0x33 0 0 ∷ ReceiveAndWait ∷ Claim ∷ Prepare 1 0 0x15 0 ∷ []
 
 abbrev mailed : List Answer
-mailed = runs 1 ∷ runs 1 ∷ runs 2 ∷ Accepted 1 2 0 ∷ runs 2 ∷ []
+mailed = runs 1 ∷ runs 1 ∷ runs 2 ∷ accepts 1 2 0 ∷ runs 2 ∷ []
 
 -- it is sent to the earlier equal, which is then due it: that board passes, and it is handed over when that task runs
-case_equal_due : answers_to (mail ++ (Send 1 1 ∷ WaitForInterrupt ∷ [])) ≡ mailed ++ (runs 2 ∷ Accepted 0 1 1 ∷ [])
+case_equal_due : answers_to (mail ++ (Send 1 1 ∷ WaitForInterrupt ∷ [])) ≡ mailed ++ (runs 2 ∷ accepts 0 1 1 ∷ [])
 case_equal_due = refl
 
 case_equal_due_passes : (check tiny (after (mail ++ (Send 1 1 ∷ [])))).answer ≡ runs 2
@@ -88,7 +88,7 @@ case_equal_due_passes = refl
 -- a task that is due a message is ready: it does not yield to an earlier equal
 case_due_goes_on :
     answers_to (samplers 0x33 ++ (PostInterrupt 1 ∷ Claim ∷ Prepare 1 0 0x15 0 ∷ Send 1 2 ∷ ReceiveAndWait ∷ []))
-    ≡ sampling ++ (runs 2 ∷ Accepted 1 2 0 ∷ runs 2 ∷ runs 2 ∷ Accepted 0 2 1 ∷ [])
+    ≡ sampling ++ (runs 2 ∷ accepts 1 2 0 ∷ runs 2 ∷ runs 2 ∷ accepts 0 2 1 ∷ [])
 case_due_goes_on = refl
 
 -- first who runs is settled, then a message is handed over: task 2 is due message 2 when the sending of message 1 wakes task 1, of a smaller
@@ -97,7 +97,7 @@ case_chosen_first :
     answers_to
     (Install 2 0x01 0x33 0 0 ∷ Install 1 0x01 0x31 0 0 ∷ ReceiveAndWait ∷ Claim ∷ Claim ∷ Prepare 1 0 0x15 0 ∷ Prepare 2 0 0x15 0 ∷ Send 2 2
     ∷ SendAndWait 1 1 ∷ WaitForInterrupt ∷ [])
-    ≡ runs 2 ∷ runs 1 ∷ runs 2 ∷ Accepted 1 2 0 ∷ Accepted 2 2 0 ∷ runs 2 ∷ runs 2 ∷ runs 2 ∷ Accepted 0 1 1 ∷ Accepted 0 2 2 ∷ []
+    ≡ runs 2 ∷ runs 1 ∷ runs 2 ∷ accepts 1 2 0 ∷ accepts 2 2 0 ∷ runs 2 ∷ runs 2 ∷ runs 2 ∷ accepts 0 1 1 ∷ accepts 0 2 2 ∷ []
 case_chosen_first = refl
 
 -- ---- saved boards

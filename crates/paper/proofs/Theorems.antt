@@ -8,6 +8,7 @@ use native.Mathlib.Omega.{arith}
 use lib.ListN.{get_or}
 use lib.Dec.{eqb, ltb}
 use borrow.Author.Tests.{ltb-true, eqb-true, ne_eqb, not-false}
+use Rattle.std.specs.Prelude.{Err, Ok}
 use Rattle.links.specs.Chain.{All}
 use Rattle.links.proofs.Bools.{both, cond_holds, every}
 use Rattle.links.proofs.Members.{all_map}
@@ -24,9 +25,7 @@ use Rattle.paper.specs.declared.answer.Refusal.{Refusal}
 use Rattle.paper.specs.declared.answer.Refusal.TheVariants.{WrongLength, RuleBroken, NobodyRuns, NoSuchMessage, NotHeld, NoSuchTask}
 use Rattle.paper.specs.declared.answer.Refusal.TheVariants.{BadPriority, NotInstallable, BadStatus, TaskBusy, NoneFree, NotQueued}
 use Rattle.paper.specs.declared.answer.Refusal.TheVariants.{NotItsSender, BadSender, NothingToDeliver, NoDelay, NoTimerFree, BadTimer}
-use Rattle.paper.specs.declared.answer.Answer.{Answer}
-use Rattle.paper.specs.declared.answer.Answer.TheVariants.{Accepted, Refused}
-use Rattle.paper.specs.Answers.{rule_number, record_number, Told, told, number_of, Handed, handed}
+use Rattle.paper.specs.Answers.{rule_number, record_number, Told, told, number_of, Handed, handed, Answer, accepts}
 use Rattle.paper.specs.Rules.{empty_queue, runs_next, passes}
 use Rattle.paper.specs.Named.{broken_rule}
 use Rattle.paper.specs.Refusals.{Test, no1, no2_by, no2, own_row, row, Verdict, Go, Stop, given}
@@ -287,15 +286,15 @@ others_told q n =
 
 abbrev answer_of : Handed → Answer
 answer_of h =
-    cond (eqb h.number 0) (Accepted h.value h.running h.delivered)
-    (Refused (refusal_of (record { number = h.number; rule = h.rule; record_no = h.record_no })))
+    cond (eqb h.number 0) (accepts h.value h.running h.delivered)
+    (Err (refusal_of (record { number = h.number; rule = h.rule; record_no = h.record_no })))
 
 handed_back : (a : Answer) → answer_of (handed a) ≡ a
-handed_back (Accepted v c m) = refl
-handed_back (Refused q) =
+handed_back (Ok a) = refl
+handed_back (Err q) =
     let n : number_of q ≢ 0 = λ e. let r = (refusal-number q).0 in absurd (omega arith) in
-    ap (λ (t : Bool). cond t (Accepted 0 0 0) (Refused (refusal_of (told q)))) (ne_eqb (number_of q) 0 n)
-    ∙ ap Refused (at_number q)
+    ap (λ (t : Bool). cond t (accepts 0 0 0) (Err (refusal_of (told q)))) (ne_eqb (number_of q) 0 n)
+    ∙ ap Err (at_number q)
 
 pub handed_tells : HandedTells
 handed_tells a e h = sym (handed_back a) ∙ ap answer_of h ∙ handed_back e

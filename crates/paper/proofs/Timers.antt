@@ -4,6 +4,7 @@ use mathlib.Core.Path.{◌≡◌, refl}
 use mathlib.Core.Bool.{true, false}
 use mathlib.Core.List.{[], ◌∷◌, map}
 use Prim.Native.Nat.{ℕ}
+use Rattle.std.specs.Prelude.{Err}
 use Rattle.board.specs.declared.records.Message.{Message}
 use Rattle.board.specs.declared.places.Place.{Place}
 use Rattle.board.specs.declared.places.Place.TheVariants.{HeldBy, OnTimer}
@@ -11,12 +12,11 @@ use Rattle.board.specs.Numbers.{task_no}
 use Rattle.board.specs.Board.{Board, board_of, bytes_of, with_message, with_place}
 use Rattle.paper.specs.declared.call.Call.{Call}
 use Rattle.paper.specs.declared.call.Call.TheVariants.{Install, CancelTask, Claim, Release, CancelMessage}
-use Rattle.paper.specs.declared.answer.Answer.{Answer}
-use Rattle.paper.specs.declared.answer.Answer.TheVariants.{Accepted, Refused}
 use Rattle.paper.specs.declared.answer.Refusal.TheVariants.{NotHeld, TaskBusy, NotQueued}
 use Rattle.paper.specs.Rules.{passes}
 use Rattle.paper.specs.Outcomes.{effect}
 use Rattle.paper.proofs.Slips.{tiny, after, ok}
+use Rattle.paper.specs.Answers.{Answer, accepts}
 
 -- tasks 1 and 2 are there, and task 1 runs; task 3 is absent; message 1 has these fields and is at this place
 abbrev station : Message → Place → Board
@@ -57,12 +57,12 @@ answer b call = (effect tiny (bytes_of b) call).answer
 -- it is not held, not queued and not free
 case_on_timer_elsewhere :
     map (answer (on_timer 0x15 0 1 1)) (Release 1 ∷ CancelMessage 1 1 ∷ Claim ∷ [])
-    ≡ Refused NotHeld ∷ Refused NotQueued ∷ Accepted 2 1 0 ∷ []
+    ≡ Err NotHeld ∷ Err NotQueued ∷ accepts 2 1 0 ∷ []
 case_on_timer_elsewhere = refl
 
 -- ---- refusal 10
 -- its sender cannot be cancelled, and its receiver can
-case_awaited : map (answer (on_timer 0x15 0 1 2)) (CancelTask 2 ∷ CancelTask 1 ∷ []) ≡ Refused TaskBusy ∷ Accepted 0 2 0 ∷ []
+case_awaited : map (answer (on_timer 0x15 0 1 2)) (CancelTask 2 ∷ CancelTask 1 ∷ []) ≡ Err TaskBusy ∷ accepts 0 2 0 ∷ []
 case_awaited = refl
 
 -- so can the sender of a message that is elsewhere

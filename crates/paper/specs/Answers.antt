@@ -1,17 +1,17 @@
 -- Document 01, 'Numbers handed back', and document 02, Ask 1: what each answer says. A reader must believe this file.
 --   rule_number r    the number of a broken rule, 1 to 7; record_number r the task or message that it names, 0 for R1 and R3, byte 1 for R7
 --   told q           the number of a refusal, and with 2 the rule and the record, else zeros; number_of q its number alone
+--   Answer           accepted with three values, or refused; accepts v c m is accepted with these
 --   handed a         the papers' numbers and values of an answer: 0 and three values if accepted, else what is told and zeros
 -- Assumes nothing.
-use Rattle.std.specs.Prelude.{ℕ}
+use Rattle.std.specs.Prelude.{ℕ, Result, Ok, Err}
 use Rattle.paper.specs.declared.answer.Rule.{Rule}
 use Rattle.paper.specs.declared.answer.Rule.TheVariants.{R1, R2, R3, R4, R5, R6, R7}
 use Rattle.paper.specs.declared.answer.Refusal.{Refusal}
 use Rattle.paper.specs.declared.answer.Refusal.TheVariants.{WrongLength, RuleBroken, NobodyRuns, NoSuchMessage, NotHeld, NoSuchTask}
 use Rattle.paper.specs.declared.answer.Refusal.TheVariants.{BadPriority, NotInstallable, BadStatus, TaskBusy, NoneFree, NotQueued}
 use Rattle.paper.specs.declared.answer.Refusal.TheVariants.{NotItsSender, BadSender, NothingToDeliver, NoDelay, NoTimerFree, BadTimer}
-use Rattle.paper.specs.declared.answer.Answer.{Answer}
-use Rattle.paper.specs.declared.answer.Answer.TheVariants.{Accepted, Refused}
+use Rattle.paper.specs.declared.answer.Accepted.{Accepted}
 
 -- ---- the rule and the record
 abbrev pub rule_number : Rule → ℕ
@@ -65,6 +65,12 @@ abbrev pub number_of : Refusal → ℕ
 number_of q = (told q).number
 
 -- ---- an answer
+abbrev pub Answer : Type 0
+Answer = Result Accepted Refusal
+
+abbrev pub accepts : ℕ → ℕ → ℕ → Answer
+accepts v c m = Ok (record { value = v; running = c; delivered = m })
+
 pub record Handed : Type 0 where
   pub number : ℕ
   pub value : ℕ
@@ -74,6 +80,6 @@ pub record Handed : Type 0 where
   pub record_no : ℕ
 
 abbrev pub handed : Answer → Handed
-handed (Accepted v c m) = record { number = 0; value = v; running = c; delivered = m; rule = 0; record_no = 0 }
-handed (Refused q) =
+handed (Ok a) = record { number = 0; value = a.value; running = a.running; delivered = a.delivered; rule = 0; record_no = 0 }
+handed (Err q) =
     record { number = number_of q; value = 0; running = 0; delivered = 0; rule = (told q).rule; record_no = (told q).record_no }

@@ -18,7 +18,7 @@
 --   HandedTells         the papers' numbers and values tell the answer
 --   FreshInstallAccepted, AnswersDiffer, InstallWrites   the definitions refuse not all, answer not always the same, and do write
 -- Assumes nothing.
-use Rattle.std.specs.Prelude.{◌≡◌, ◌≢◌, ◌⊎◌, ◌↔◌, Bool, true, false, List, [], ◌∷◌, ℕ, ◌≤◌, ◌<◌, length}
+use Rattle.std.specs.Prelude.{◌≡◌, ◌≢◌, ◌⊎◌, ◌↔◌, Bool, true, false, List, [], ◌∷◌, ℕ, ◌≤◌, ◌<◌, length, Err, Ok}
 use Rattle.links.specs.Queue.{ends, rising}
 use Rattle.links.specs.Chain.{In, Out, All}
 use Rattle.board.specs.declared.numbers.Size.{Size}
@@ -31,9 +31,7 @@ use Rattle.paper.specs.declared.answer.Rule.{Rule}
 use Rattle.paper.specs.declared.answer.Rule.TheVariants.{R1, R2, R3, R4, R5, R6, R7}
 use Rattle.paper.specs.declared.answer.Refusal.{Refusal}
 use Rattle.paper.specs.declared.answer.Refusal.TheVariants.{RuleBroken, NothingToDeliver}
-use Rattle.paper.specs.declared.answer.Answer.{Answer}
-use Rattle.paper.specs.declared.answer.Answer.TheVariants.{Accepted, Refused}
-use Rattle.paper.specs.Answers.{rule_number, record_number, number_of, handed}
+use Rattle.paper.specs.Answers.{rule_number, record_number, number_of, handed, Answer, accepts}
 use Rattle.paper.specs.Rules.{next_message, message_number, queue, first_ready, passes}
 use Rattle.paper.specs.Rules.{rule1, rule2_at, rule3, rule4_at, rule5_at, rule6_at, rule7}
 use Rattle.paper.specs.Named.{broken_rule}
@@ -46,7 +44,7 @@ NoSecondOutcome = (o : Outcome) (a e : Answer) (l m : List ℕ) → Ends a l o �
 
 -- ---- a refusal changes no byte
 abbrev pub Unchanged : List ℕ → Outcome → Type 0
-Unchanged l o = (q : Refusal) → o.answer ≡ Refused q → o.after ≡ l
+Unchanged l o = (q : Refusal) → o.answer ≡ Err q → o.after ≡ l
 
 abbrev pub RefusalChangesNothing : Type 0
 RefusalChangesNothing =
@@ -55,7 +53,7 @@ RefusalChangesNothing =
 
 -- ---- accepted means that the board passed
 abbrev pub Only : (Size → Board → Bool) → Size → List ℕ → Outcome → Type 0
-Only test z l o = (v c m : ℕ) → o.answer ≡ Accepted v c m → (length l ≡ total z) × (test z (board_of z l) ≡ true)
+Only test z l o = (v c m : ℕ) → o.answer ≡ accepts v c m → (length l ≡ total z) × (test z (board_of z l) ≡ true)
 
 abbrev pub AcceptedPassed : Type 0
 AcceptedPassed =
@@ -69,8 +67,8 @@ First q [] = ⊥
 First q (t ∷ tests) = ((t.applies ≡ true) × (t.refusal ≡ q)) ⊎ ((t.applies ≡ false) × First q tests)
 
 abbrev pub Given : Answer → List Test → Type 0
-Given (Accepted v c m) tests = All (λ t. t.applies ≡ false) tests
-Given (Refused q) tests = q ≢ NothingToDeliver → First q tests
+Given (Ok a) tests = All (λ t. t.applies ≡ false) tests
+Given (Err q) tests = q ≢ NothingToDeliver → First q tests
 
 abbrev pub FirstIsGiven : Type 0
 FirstIsGiven =
@@ -94,7 +92,7 @@ RowsAscend =
 -- 2 is given exactly where the length is right and the board does not pass, and it names r
 abbrev pub Names : Size → List ℕ → Rule → Bool → Answer → Type 0
 Names z l r passed a =
-    (((handed a).number ≡ 2) ↔ ((length l ≡ total z) × (passed ≡ false))) × ((handed a).number ≡ 2 → a ≡ Refused (RuleBroken r))
+    (((handed a).number ≡ 2) ↔ ((length l ≡ total z) × (passed ≡ false))) × ((handed a).number ≡ 2 → a ≡ Err (RuleBroken r))
 
 abbrev pub VerdictStays : Type 0
 VerdictStays =
@@ -102,7 +100,7 @@ VerdictStays =
     ((call : Call) → Names z l (broken_rule z b) (passes z b) (effect z l call).answer)
     × Names z l (broken_rule z b) (passes z b) (check z l).answer
     × Names z l (old_broken z b) (old_passes z b) (convert z l).answer
-    × (length l ≡ total z → passes z b ≡ true → (check z l).answer ≡ Accepted 0 b.running 0)
+    × (length l ≡ total z → passes z b ≡ true → (check z l).answer ≡ accepts 0 b.running 0)
 
 -- R1, R4 and R7 and the record that R7 is told with, in an edition of the rules: today's, and the old one of saved boards
 pub record Edition : Type 0 where
@@ -157,7 +155,7 @@ HandedTells = (a e : Answer) → handed a ≡ handed e → a ≡ e
 
 -- ---- not a definition that refuses all, answers always the same, or writes nothing
 abbrev pub FreshInstallAccepted : Type 0
-FreshInstallAccepted = (effect small (blank small) (Install 1 0x01 0x33 0 0)).answer ≡ Accepted 0 1 0
+FreshInstallAccepted = (effect small (blank small) (Install 1 0x01 0x33 0 0)).answer ≡ accepts 0 1 0
 
 abbrev pub AnswersDiffer : Type 0
 AnswersDiffer = let l = (effect small (blank small) (Install 1 0x01 0x33 0 0)).after in

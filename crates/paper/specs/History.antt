@@ -6,8 +6,8 @@ use Rattle.std.specs.Prelude.{◌≡◌, List, [], ◌∷◌, ℕ}
 use Rattle.board.specs.declared.numbers.Size.{Size}
 use Rattle.board.specs.Numbers.{small}
 use Rattle.paper.specs.declared.call.Call.{Call}
-use Rattle.paper.specs.declared.answer.Answer.{Answer}
 use Rattle.paper.specs.Outcomes.{Ends, effect}
+use Rattle.paper.specs.Answers.{Answer}
 
 pub record Ran : Type 0 where
   pub answers : List Answer

@@ -6,7 +6,7 @@
 --   fresh z l, check z l   making a fresh board, checking a board
 --   Ends a l o          a contract's one clause: the answer a and the bytes l are those of the outcome o
 -- Assumes nothing.
-use Rattle.std.specs.Prelude.{◌≡◌, cond, List, [], ◌∷◌, ℕ, replicate}
+use Rattle.std.specs.Prelude.{◌≡◌, cond, List, [], ◌∷◌, ℕ, replicate, Err}
 use Rattle.links.specs.Queue.{first_of}
 use Rattle.board.specs.declared.numbers.Size.{Size}
 use Rattle.board.specs.Status.{MHBS, has}
@@ -17,13 +17,12 @@ use Rattle.paper.specs.declared.call.Call.TheVariants.{SendAndWait, Resend, Rese
 use Rattle.paper.specs.declared.call.Call.TheVariants.{ReturnAndWait, Receive, ReceiveAndWait, CancelMessage, WaitForInterrupt}
 use Rattle.paper.specs.declared.answer.Refusal.{Refusal}
 use Rattle.paper.specs.declared.answer.Refusal.TheVariants.{NothingToDeliver}
-use Rattle.paper.specs.declared.answer.Answer.{Answer}
-use Rattle.paper.specs.declared.answer.Answer.TheVariants.{Accepted, Refused}
 use Rattle.paper.specs.Rules.{queue, empty_queue, runs_next}
 use Rattle.paper.specs.Changes.{clears, take_first}
 use Rattle.paper.specs.Effects.{send, resend, forward, give_back, waits, cancel_message, install, cancel_task, post, wait_interrupt}
 use Rattle.paper.specs.Effects.{lowest_free, claim, release, prepare, find}
 use Rattle.paper.specs.Refusals.{no1, no2, row, Verdict, Go, Stop, given}
+use Rattle.paper.specs.Answers.{Answer, accepts}
 
 -- ---- the answer and all bytes afterwards
 pub record Outcome : Type 0 where
@@ -32,11 +31,11 @@ pub record Outcome : Type 0 where
 
 -- accepted carries value, running and delivered
 abbrev pub accepted : ℕ → ℕ → ℕ → List ℕ → Outcome
-accepted v c m l = record { answer = Accepted v c m; after = l }
+accepted v c m l = record { answer = accepts v c m; after = l }
 
 -- refused leaves the board unchanged
 abbrev pub refused : List ℕ → Refusal → Outcome
-refused l q = record { answer = Refused q; after = l }
+refused l q = record { answer = Err q; after = l }
 
 abbrev pub judge : List ℕ → Verdict → Outcome → Outcome
 judge l Go o = o

@@ -1,5 +1,5 @@
 // The nineteen calls, kinds 1 to 19 in this order, each with its own arguments: numbers and names are any words, STAT and PRIO any bytes.
-#[derive(Clone, Copy)]
+#[derive(Clone, Copy, Debug, PartialEq, Eq)]
 pub enum Call {
     Install {
         k: u16,

@@ -6,80 +6,65 @@
 #![tactic(auto)]
 
 mod cases;
-mod made;
+mod history;
 mod messages;
 mod past;
 mod roles;
 mod tasks;
 
-ghost use Rattle.std.specs.Prelude.{◌≤◌, length};
-ghost use Rattle.board.specs.Numbers.{small};
-ghost use Rattle.board.specs.Board.{total};
-
-use cases::write_fresh;
-use made::{none_made, tell_end};
+use board::numbers::Size;
+use history::{Form, History};
+use lent::bytes::Lent;
 use past::make_past;
-use roles::first_timed;
-use station::fresh;
+use roles::{Roles, first_timed};
 use std::env::Env;
 use std::io;
 use std::io::{Read, Write};
-use telling::finding::{Finding, judged};
+use telling::finding::judged;
 use telling::input::read_full;
-use telling::print::{decimal, text};
 
-// How the program is asked.
+// How the program is asked: for one board in this form, or for several in words.
 #[derive(Clone, Copy)]
 enum Way {
-    Words,
-    Cases,
+    One(Form),
     Each,
-    Unknown,
 }
 
 fn tell_timed<W: Write>(out: &mut W, m: u16) -> io::Result<()> {
-    text(out, b"message ")?;
-    decimal(out, m as u64)?;
-    text(
+    writeln!(
         out,
-        b" is on the timer: no history of the nineteen calls alone makes this board\n",
-    )?;
-    Ok(())
+        "message {m} is on the timer: no history of the nineteen calls alone makes this board"
+    )
 }
 
-// The history of a board without messages on the timer, on which this task runs, 0 for none.
-fn tell_calls<W: Write>(out: &mut W, l: &[u8], runs: u16, as_cases: bool) -> io::Result<()>
-    requires { total small ≤ length l.now }
-{
-    let mut d = [0u8; 1476];
-    fresh(&mut d);
-    if as_cases {
-        write_fresh(out, &d)?;
-    }
-    let made = make_past(out, l, &mut d, none_made(as_cases), runs)?;
-    tell_end(out, made, l == d.as_slice())
+// The history of a board without messages on the timer.
+fn tell_calls<W: Write>(out: &mut W, roles: Roles, form: Form) -> io::Result<()> {
+    let mut history = History::begun(out, form)?;
+    make_past(&mut history, roles)?;
+    history.end(roles.board.bytes)
 }
 
-fn tell_past<W: Write>(out: &mut W, l: &[u8], as_cases: bool) -> io::Result<()> {
+fn tell_past<W: Write>(out: &mut W, l: &[u8], form: Form) -> io::Result<()> {
     let found = judged(out, l)?;
-    let Finding::Passes(runs) = found else {
+    let Ok(runs) = found else {
         return Ok(());
     };
     // what passes is whole: the readers want to see it
-    if l.len() < 1476 {
+    let Some(board) = Lent::of(Size::SMALL, l) else {
         return Ok(());
-    }
-    let m = first_timed(l);
-    if m != 0 {
+    };
+    if let Some(m) = first_timed(board) {
         return tell_timed(out, m);
     }
-    tell_calls(out, l, runs, as_cases)
+    // the check answers 0 where no task runs
+    let runs = Some(runs).filter(|k| *k != 0);
+    tell_calls(out, Roles::on(board, runs), form)
 }
 
-fn one_board<R: Read, W: Write>(input: &mut R, out: &mut W, as_cases: bool) -> io::Result<()> {
+fn one_board<R: Read, W: Write>(input: &mut R, out: &mut W, form: Form) -> io::Result<()> {
     let mut space = [0u8; 65536];
     let n = read_full(input, &mut space)?;
-    tell_past(out, &space[..n], as_cases)
+    tell_past(out, &space[..n], form)
 }
 
 // The next of several boards; false where there is none.
@@ -89,51 +74,44 @@ fn next_board<R: Read, W: Write>(input: &mut R, out: &mut W) -> io::Result<bool>
     if n == 0 {
         return Ok(false);
     }
-    tell_past(out, &space[..n], false)?;
+    tell_past(out, &space[..n], Form::Words)?;
     Ok(true)
 }
 
 fn each_board<R: Read, W: Write>(input: &mut R, out: &mut W) -> io::Result<()> {
-    let mut turns = u64::MAX;
-    while turns > 0 {
+    for _ in 0..u64::MAX {
         if !next_board(input, out)? {
-            return Ok(());
+            break;
         }
-        turns -= 1;
     }
     Ok(())
 }
 
-fn way_of(word: &[u8]) -> Way {
-    if word.len() == 0 {
-        return Way::Words;
+fn way_of(word: &[u8]) -> Option<Way> {
+    match word {
+        b"" => Some(Way::One(Form::Words)),
+        b"--cases" => Some(Way::One(Form::Cases)),
+        b"--each" => Some(Way::Each),
+        _ => None,
     }
-    if word == b"--cases".as_slice() {
-        return Way::Cases;
-    }
-    if word == b"--each".as_slice() {
-        return Way::Each;
-    }
-    Way::Unknown
 }
 
 // By its first argument. One that is longer than any option is none.
-fn way_asked(rt: &impl Env) -> Way {
+fn way_asked(rt: &impl Env) -> Option<Way> {
     let mut word = [0u8; 4096];
-    match rt.arg(1, &mut word) {
-        Ok(n) => way_of(&word[..n]),
-        Err(_) => Way::Words,
-    }
+    let Ok(n) = rt.arg(1, &mut word) else {
+        return Some(Way::One(Form::Words));
+    };
+    way_of(&word[..n])
 }
 
 fn main(rt: HostRuntime) -> io::Result<()> {
     let mut out = rt.stdout();
     let mut input = rt.stdin();
     match way_asked(&rt) {
-        Way::Words => one_board(&mut input, &mut out, false)?,
-        Way::Cases => one_board(&mut input, &mut out, true)?,
-        Way::Each => each_board(&mut input, &mut out)?,
-        Way::Unknown => out.write_all(b"error: the options are --cases and --each\n")?,
+        Some(Way::One(form)) => one_board(&mut input, &mut out, form)?,
+        Some(Way::Each) => each_board(&mut input, &mut out)?,
+        None => writeln!(out, "error: the options are --cases and --each")?,
     }
     out.flush()
 }

@@ -1,61 +1,65 @@
 // The order of the calls of a history: first all records, then who waits, runs and is ready, and the queues.
-ghost use Rattle.std.specs.Prelude.{◌≤◌, length};
-ghost use Rattle.board.specs.Numbers.{small};
-ghost use Rattle.board.specs.Board.{total};
+ghost use Rattle.std.specs.Iterator.{IsFinite};
 
-use crate::made::{Group, Made};
-use crate::messages::each_message;
-use crate::roles::who_fills;
-use crate::tasks::{each_task, install_guests, install_tasks, post_filler, rest_filler};
+use crate::history::{Group, History};
+use crate::messages::{claim, fill_queue, release};
+use crate::roles::Roles;
+use crate::tasks::{
+    dismiss, install_guest, install_tasks, post_filler, queue_interrupt, rest_filler, wait, wake,
+};
 use std::io;
 use std::io::Write;
 
-// Every task waits for an interrupt, and every message that is used is held and has its fields.
-fn make_records<W: Write>(
-    out: &mut W,
-    l: &[u8],
-    d: &mut [u8],
-    made: Made,
-    filler: u16,
-) -> io::Result<Made>
-    requires { total small ≤ length l.now }
+// A group that goes by numbers of tasks or of messages: its calls for each.
+fn each<W: Write, N: Iterator<Item = u16> + Drop, F: Fn(&mut History<W>, u16) -> io::Result<()>>(
+    h: &mut History<W>,
+    group: Group,
+    numbers: N,
+    calls: F,
+) -> io::Result<()>
+    requires callable { F.IsAlwaysCallable calls }
+    requires can { N.can_next numbers }
+    requires ends { IsFinite (N.remaining numbers) }
 {
-    let made = install_tasks(out, l, d, made)?;
-    let made = install_guests(out, l, d, made)?;
-    let made = each_message(out, l, d, made, filler, Group::Messages)?;
-    let made = each_message(out, l, d, made, filler, Group::Free)?;
-    each_task(out, l, d, made, filler, Group::Gone)
+    h.begin(group);
+    for n in numbers {
+        calls(h, n)?;
+    }
+    Ok(())
+}
+
+// Every task waits for an interrupt, and every message that is used is held and has its fields. The last guest is the first that
+// is installed.
+fn make_records<W: Write>(h: &mut History<W>, roles: Roles) -> io::Result<()> {
+    install_tasks(h, roles)?;
+    each(
+        h,
+        Group::Guests,
+        (1..=32).rev(),
+        |h, k| install_guest(h, roles, k),
+    )?;
+    each(h, Group::Messages, 1..=128, |h, m| claim(h, roles, m))?;
+    each(h, Group::Free, 1..=128, |h, m| release(h, roles, m))?;
+    each(h, Group::Gone, 1..=32, |h, k| dismiss(h, roles, k))
 }
 
 // Who waits for a message, who runs and who is ready, and the queues.
-fn make_queues<W: Write>(
-    out: &mut W,
-    l: &[u8],
-    d: &mut [u8],
-    made: Made,
-    filler: u16,
-) -> io::Result<Made>
-    requires { total small ≤ length l.now }
-{
-    let made = each_task(out, l, d, made, filler, Group::Waiting)?;
-    let made = post_filler(out, d, made, filler)?;
-    let made = each_task(out, l, d, made, filler, Group::Ready)?;
-    each_task(out, l, d, made, filler, Group::Queues)
+fn make_queues<W: Write>(h: &mut History<W>, roles: Roles) -> io::Result<()> {
+    each(h, Group::Waiting, 1..=32, |h, k| wait(h, roles, k))?;
+    post_filler(h, roles)?;
+    each(h, Group::Ready, 1..=32, |h, k| wake(h, roles, k))?;
+    each(h, Group::Queues, 1..=32, |h, k| fill_queue(h, roles, k))
 }
 
-// The history of the board l, on which this task runs, 0 for none, made on the fresh board d.
-pub(crate) fn make_past<W: Write>(
-    out: &mut W,
-    l: &[u8],
-    d: &mut [u8],
-    made: Made,
-    runs: u16,
-) -> io::Result<Made>
-    requires { total small ≤ length l.now }
-{
-    let filler = who_fills(l, runs);
-    let made = make_records(out, l, d, made, filler)?;
-    let made = make_queues(out, l, d, made, filler)?;
-    let made = rest_filler(out, d, made, filler, runs)?;
-    each_task(out, l, d, made, filler, Group::Posted)
+// All calls of a history that ends in the board with these roles.
+pub(crate) fn make_past<W: Write>(h: &mut History<W>, roles: Roles) -> io::Result<()> {
+    make_records(h, roles)?;
+    make_queues(h, roles)?;
+    rest_filler(h, roles)?;
+    each(
+        h,
+        Group::Posted,
+        1..=32,
+        |h, k| queue_interrupt(h, roles, k),
+    )
 }

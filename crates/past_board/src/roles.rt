@@ -1,92 +1,72 @@
-// The parts that tasks have in a history, read off the board: who fills the queues, who is a guest, who claims a message; and
-// whether a message is on the timer, where none of the nineteen calls puts one.
-ghost use Rattle.std.specs.Prelude.{◌≤◌, length};
-ghost use Rattle.board.specs.Numbers.{small};
-ghost use Rattle.board.specs.Board.{total};
-
-use board::numbers::Size;
+// The parts that tasks have in a history, read off the board that it ends in: who fills the queues, who is a guest, who claims a
+// message; and whether a message is on the timer, where none of the nineteen calls puts one.
+use board::numbers::Number;
 use board::places::Place;
+use board::records::{Message, Task};
 use lent::by_word::{is_timed, message_meant, place_meant, task_meant};
+use lent::bytes::Lent;
+
+// The board that a history ends in, which task runs on it, and who fills its queues.
+#[derive(Clone, Copy)]
+pub(crate) struct Roles<'a> {
+    pub(crate) board: Lent<'a>,
+    pub(crate) runs: Option<u16>,
+    pub(crate) filler: Option<u16>,
+}
 
 // Who fills the queues: the running task. Where no task runs it is the first by number that has a queue, which waits for an
-// interrupt; 0 where none has one.
-pub(crate) fn who_fills(l: &[u8], runs: u16) -> u16
-    requires { total small ≤ length l.now }
-{
-    if runs != 0 {
-        return runs;
-    }
-    let mut k: u16 = 0;
-    while k < 32 {
-        k += 1;
-        let t = task_meant(Size::SMALL, l, k);
-        if t.mptr != 0 {
-            return k;
+// interrupt.
+fn who_fills(l: Lent<'_>, runs: Option<u16>) -> Option<u16> {
+    runs.or_else(|| (1..=32).find(|k| task_meant(l, *k).mptr != 0))
+}
+
+// The lowest message that is on the timer.
+pub(crate) fn first_timed(l: Lent<'_>) -> Option<u16> {
+    (1..=128).find(|m| is_timed(l, *m))
+}
+
+impl<'a> Roles<'a> {
+    pub(crate) fn on(board: Lent<'a>, runs: Option<u16>) -> Roles<'a> {
+        let filler = who_fills(board, runs);
+        Roles {
+            board,
+            runs,
+            filler,
         }
     }
-    0
-}
 
-// The lowest message that is on the timer, 0 if none is.
-pub(crate) fn first_timed(l: &[u8]) -> u16
-    requires { total small ≤ length l.now }
-{
-    let mut m: u16 = 0;
-    while m < 128 {
-        m += 1;
-        if is_timed(Size::SMALL, l, m) {
-            return m;
+    pub(crate) fn task(self, k: u16) -> Task {
+        task_meant(self.board, k)
+    }
+
+    pub(crate) fn message(self, m: u16) -> Message {
+        message_meant(self.board, m)
+    }
+
+    fn place(self, m: u16) -> Place {
+        place_meant(self.board, m)
+    }
+
+    pub(crate) fn is_free(self, m: u16) -> bool {
+        matches!(self.place(m), Place::Free)
+    }
+
+    // A guest is an absent task that a message was sent to: RPTR still names it.
+    pub(crate) fn is_guest(self, k: u16) -> bool {
+        !self.task(k).present() && (1..=128).any(|m| self.message(m).rptr == k)
+    }
+
+    // Who claims a message that ends in this place: its holder, or who fills the queues; nobody where it is free.
+    fn claims(self, p: Place) -> Option<u16> {
+        match p {
+            Place::HeldBy(k) => Some(k.number()),
+            Place::QueuedAt(_) => self.filler,
+            _ => None,
         }
     }
-    0
-}
 
-// Some message has RPTR k.
-fn is_receiver(l: &[u8], k: u16) -> bool
-    requires { total small ≤ length l.now }
-{
-    let mut m: u16 = 0;
-    while m < 128 {
-        m += 1;
-        let u = message_meant(Size::SMALL, l, m);
-        if u.rptr == k {
-            return true;
-        }
+    // Who claims message m: of a free one it is who claims the next that is not. Where all behind it are free, none is claimed.
+    pub(crate) fn claimer(self, m: u16) -> Option<u16> {
+        (m..=128).find_map(|n| self.claims(self.place(n)))
     }
-    false
-}
-
-// A guest is an absent task that a message was sent to: RPTR still names it.
-pub(crate) fn is_guest(l: &[u8], k: u16) -> bool
-    requires { total small ≤ length l.now }
-{
-    let t = task_meant(Size::SMALL, l, k);
-    if t.present() {
-        return false;
-    }
-    is_receiver(l, k)
-}
-
-// Who claims a message that ends in this place: its holder, or who fills the queues; 0 where it is free.
-fn claims(p: Place, filler: u16) -> u16 {
-    match p {
-        Place::HeldBy(k) => k.number(),
-        Place::QueuedAt(_) => filler,
-        _ => 0,
-    }
-}
-
-// Who claims message m: of a free one it is who claims the next that is not; 0 where all behind it are free, so none is claimed.
-pub(crate) fn claimer(l: &[u8], filler: u16, m: u16) -> u16
-    requires { total small ≤ length l.now }
-{
-    let mut n = m;
-    while n <= 128 {
-        let k = claims(place_meant(Size::SMALL, l, n), filler);
-        if k != 0 {
-            return k;
-        }
-        n += 1;
-    }
-    0
 }

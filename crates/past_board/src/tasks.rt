@@ -1,59 +1,38 @@
 // The calls of a history on tasks: who is there, who waits and for what, and who runs.
-ghost use Rattle.std.specs.Prelude.{◌≤◌, length};
-ghost use Rattle.board.specs.Numbers.{small};
-ghost use Rattle.board.specs.Board.{total};
-
-use crate::made::{Group, Made, begin, make};
-use crate::messages::fill_queue;
-use crate::roles::is_guest;
-use board::numbers::{Size, TaskMeant};
+use crate::history::{Group, History};
+use crate::roles::Roles;
+use board::numbers::Number;
 use board::records::Task;
 use board::status::Status;
-use lent::by_word::task_meant;
-use lent::bytes::{first_task, task_at};
 use paper::call::Call;
 use std::io;
 use std::io::Write;
+use telling::walks::tasks;
 
 // What a task is not installed with, and gets later.
 const LATER: u8 = Status::WAIT + Status::IWAT + Status::INTQ + Status::MHBS;
 
 // Task k is installed with the fields of t, and waits for an interrupt.
-fn install<W: Write>(out: &mut W, d: &mut [u8], made: Made, k: u16, t: Task) -> io::Result<Made> {
+fn install<W: Write>(h: &mut History<W>, k: u16, t: Task) -> io::Result<()> {
     let s = t.stat;
-    let fields = Call::Install {
-        k: k,
+    h.make(Call::Install {
+        k,
         stat: s.without(LATER).byte(),
         prio: t.prio,
         sptr: t.sptr,
         name: t.name,
-    };
-    let made = make(out, d, made, fields)?;
-    make(out, d, made, Call::WaitForInterrupt)
+    })?;
+    h.make(Call::WaitForInterrupt)
 }
 
-// The tasks in queue order. A board that passes has no more than 32.
-pub(crate) fn install_tasks<W: Write>(
-    out: &mut W,
-    l: &[u8],
-    d: &mut [u8],
-    made: Made,
-) -> io::Result<Made>
-    requires { total small ≤ length l.now }
-{
-    let mut made = begin(made, Group::Tasks);
-    let mut next = first_task(Size::SMALL, l);
-    let mut left: u16 = 32;
-    while 0 < left {
-        let TaskMeant::Task(k) = next else {
-            return Ok(made);
-        };
-        let t = task_at(Size::SMALL, l, k);
-        made = install(out, d, made, k.number(), t)?;
-        next = t.next(Size::SMALL);
-        left -= 1;
+// The tasks in queue order.
+pub(crate) fn install_tasks<W: Write>(h: &mut History<W>, roles: Roles) -> io::Result<()> {
+    h.begin(Group::Tasks);
+    let l = roles.board;
+    for (k, t) in tasks(l) {
+        install(h, k.number(), t)?;
     }
-    Ok(made)
+    Ok(())
 }
 
 // A guest stands behind all other tasks: its priority number is the largest.
@@ -68,151 +47,67 @@ fn guest() -> Task {
     }
 }
 
-// The guests, the last of them first.
-pub(crate) fn install_guests<W: Write>(
-    out: &mut W,
-    l: &[u8],
-    d: &mut [u8],
-    made: Made,
-) -> io::Result<Made>
-    requires { total small ≤ length l.now }
-{
-    let mut made = begin(made, Group::Guests);
-    let mut k: u16 = 33;
-    while 1 < k {
-        k -= 1;
-        if is_guest(l, k) {
-            made = install(out, d, made, k, guest())?;
-        }
+pub(crate) fn install_guest<W: Write>(h: &mut History<W>, roles: Roles, k: u16) -> io::Result<()> {
+    if roles.is_guest(k) {
+        install(h, k, guest())?;
     }
-    Ok(made)
-}
-
-fn post<W: Write>(out: &mut W, d: &mut [u8], made: Made, k: u16) -> io::Result<Made> {
-    make(out, d, made, Call::PostInterrupt { k: k })
+    Ok(())
 }
 
 // A guest is posted and cancelled.
-fn dismiss<W: Write>(out: &mut W, l: &[u8], d: &mut [u8], made: Made, k: u16) -> io::Result<Made>
-    requires { total small ≤ length l.now }
-{
-    if is_guest(l, k) {
-        let made = post(out, d, made, k)?;
-        return make(out, d, made, Call::CancelTask { k: k });
+pub(crate) fn dismiss<W: Write>(h: &mut History<W>, roles: Roles, k: u16) -> io::Result<()> {
+    if roles.is_guest(k) {
+        h.post(k)?;
+        h.make(Call::CancelTask { k })?;
     }
-    Ok(made)
+    Ok(())
 }
 
 // Task k waits for a message. Where it is due one (MHBS), that is queued at it later.
-fn wait<W: Write>(out: &mut W, d: &mut [u8], made: Made, k: u16, s: Status) -> io::Result<Made> {
+pub(crate) fn wait<W: Write>(h: &mut History<W>, roles: Roles, k: u16) -> io::Result<()> {
+    let s = roles.task(k).stat;
     if s.has(Status::WAIT + Status::MHBS) {
-        let made = post(out, d, made, k)?;
-        return make(out, d, made, Call::ReceiveAndWait);
+        h.post(k)?;
+        h.make(Call::ReceiveAndWait)?;
     }
-    Ok(made)
+    Ok(())
 }
 
 // Task k is ready and due no message. Who fills the queues is posted already.
-fn wake<W: Write>(
-    out: &mut W,
-    d: &mut [u8],
-    made: Made,
-    k: u16,
-    s: Status,
-    filler: u16,
-) -> io::Result<Made> {
-    if k == filler {
-        return Ok(made);
+pub(crate) fn wake<W: Write>(h: &mut History<W>, roles: Roles, k: u16) -> io::Result<()> {
+    let s = roles.task(k).stat;
+    if roles.filler != Some(k) && !s.has(Status::MHBS) && s.ready() {
+        h.post(k)?;
     }
-    if s.has(Status::MHBS) {
-        return Ok(made);
-    }
-    if s.ready() {
-        return post(out, d, made, k);
-    }
-    Ok(made)
+    Ok(())
 }
 
-fn queue_interrupt<W: Write>(
-    out: &mut W,
-    d: &mut [u8],
-    made: Made,
+pub(crate) fn queue_interrupt<W: Write>(
+    h: &mut History<W>,
+    roles: Roles,
     k: u16,
-    s: Status,
-) -> io::Result<Made> {
+) -> io::Result<()> {
+    let s = roles.task(k).stat;
     if s.has(Status::INTQ) {
-        return post(out, d, made, k);
+        h.post(k)?;
     }
-    Ok(made)
-}
-
-// What a group has of task k.
-fn of_task<W: Write>(
-    out: &mut W,
-    l: &[u8],
-    d: &mut [u8],
-    made: Made,
-    k: u16,
-    filler: u16,
-    group: Group,
-) -> io::Result<Made>
-    requires { total small ≤ length l.now }
-{
-    let t = task_meant(Size::SMALL, l, k);
-    let s = t.stat;
-    match group {
-        Group::Gone => dismiss(out, l, d, made, k),
-        Group::Waiting => wait(out, d, made, k, s),
-        Group::Ready => wake(out, d, made, k, s, filler),
-        Group::Queues => fill_queue(out, l, d, made, k),
-        Group::Posted => queue_interrupt(out, d, made, k, s),
-        _ => Ok(made),
-    }
-}
-
-// A group that goes by the numbers of the tasks.
-pub(crate) fn each_task<W: Write>(
-    out: &mut W,
-    l: &[u8],
-    d: &mut [u8],
-    made: Made,
-    filler: u16,
-    group: Group,
-) -> io::Result<Made>
-    requires { total small ≤ length l.now }
-{
-    let mut made = begin(made, group);
-    let mut k: u16 = 0;
-    while k < 32 {
-        k += 1;
-        made = of_task(out, l, d, made, k, filler, group)?;
-    }
-    Ok(made)
+    Ok(())
 }
 
 // Who fills the queues runs.
-pub(crate) fn post_filler<W: Write>(
-    out: &mut W,
-    d: &mut [u8],
-    made: Made,
-    filler: u16,
-) -> io::Result<Made> {
-    if filler == 0 {
-        return Ok(made);
-    }
-    post(out, d, begin(made, Group::Runs), filler)
+pub(crate) fn post_filler<W: Write>(h: &mut History<W>, roles: Roles) -> io::Result<()> {
+    let Some(k) = roles.filler else {
+        return Ok(());
+    };
+    h.begin(Group::Runs);
+    h.post(k)
 }
 
-// Where no task runs on the board, it waits for an interrupt again.
-pub(crate) fn rest_filler<W: Write>(
-    out: &mut W,
-    d: &mut [u8],
-    made: Made,
-    filler: u16,
-    runs: u16,
-) -> io::Result<Made> {
-    if filler == runs {
-        return Ok(made);
+// Where no task runs on the board, who fills the queues waits for an interrupt again.
+pub(crate) fn rest_filler<W: Write>(h: &mut History<W>, roles: Roles) -> io::Result<()> {
+    if roles.filler == roles.runs {
+        return Ok(());
     }
-    make(out, d, begin(made, Group::Rests), Call::WaitForInterrupt)
+    h.begin(Group::Rests);
+    h.make(Call::WaitForInterrupt)
 }

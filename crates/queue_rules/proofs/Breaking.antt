@@ -3,13 +3,12 @@
 use mathlib.Core.Path.{◌≡◌, refl, sym, ap, ◌∙◌}
 use mathlib.Core.Bool.{Bool, true, false, true≢false}
 use Prim.Native.Nat.{ℕ, ◌+◌, ◌<◌}
+use Rattle.std.specs.Prelude.{Some, None}
 use Rattle.links.specs.Queue.{each, smallest_failing}
 use Rattle.links.proofs.Smallest.{smallest_none, smallest_is, smallest_one}
 use Rattle.board.specs.declared.numbers.Size.{Size}
 use Rattle.board.specs.declared.numbers.TaskNo.{TaskNo}
 use Rattle.board.specs.declared.numbers.MsgNo.{MsgNo}
-use Rattle.board.specs.declared.numbers.TaskMeant.TheVariants.{Task, NoTask}
-use Rattle.board.specs.declared.numbers.MessageMeant.TheVariants.{Message, NoMessage}
 use Rattle.board.specs.Numbers.{outside, task_no, msg_no, task_meant, message_meant}
 use Rattle.board.proofs.Pieces.{within-outside}
 use Rattle.board.proofs.Meant.{task_meant-task, task_meant_none, message_meant-message, message_meant_none}
@@ -37,7 +36,7 @@ module _ (f : ℕ → Bool) (n : ℕ) where
 -- ---- tasks
 module _ (z : Size) (f : ℕ → Bool) where
   -- each keeps the rule
-  pub breaking_none : each f z.tasks ≡ true → NoTask ≡ breaking z f
+  pub breaking_none : each f z.tasks ≡ true → None ≡ breaking z f
   breaking_none e = sym (ap (task_meant z) (smallest_none f z.tasks e))
 
   -- each up to k keeps it, and the next does not
@@ -45,17 +44,17 @@ module _ (z : Size) (f : ℕ → Bool) where
   breaking_is k h e g = sym (ap (task_meant z) (smallest_is f z.tasks k h e g))
 
   -- and back
-  pub breaking-task : {k : TaskNo} → breaking z f ≡ Task k → (each f z.tasks ≡ false) × (k ≡ task_no (smallest_failing f z.tasks))
+  pub breaking-task : {k : TaskNo} → breaking z f ≡ Some k → (each f z.tasks ≡ false) × (k ≡ task_no (smallest_failing f z.tasks))
   breaking-task {k = k} e = let r = task_meant-task z (smallest_failing f z.tasks) k e in (one_fails f z.tasks r.0, r.1)
 
-  pub breaking-nobody : breaking z f ≡ NoTask → each f z.tasks ≡ true
+  pub breaking-nobody : breaking z f ≡ None → each f z.tasks ≡ true
   breaking-nobody e = none_fails f z.tasks (task_meant_none z (smallest_failing f z.tasks) e)
 
   -- ---- messages
-  pub breaking-message : {m : MsgNo} → message_meant z (smallest_failing f z.messages) ≡ Message m
+  pub breaking-message : {m : MsgNo} → message_meant z (smallest_failing f z.messages) ≡ Some m
       → (each f z.messages ≡ false) × (m ≡ msg_no (smallest_failing f z.messages))
   breaking-message {m = m} e =
       let r = message_meant-message z (smallest_failing f z.messages) m e in (one_fails f z.messages r.0, r.1)
 
-  pub breaking-nothing : message_meant z (smallest_failing f z.messages) ≡ NoMessage → each f z.messages ≡ true
+  pub breaking-nothing : message_meant z (smallest_failing f z.messages) ≡ None → each f z.messages ≡ true
   breaking-nothing e = none_fails f z.messages (message_meant_none z (smallest_failing f z.messages) e)

@@ -2,7 +2,7 @@ pub mod Visits
 pub mod Counting
 pub mod Lists
 pub mod Turns
-mod QueueTurns
+pub mod Walking
 pub mod Places
 mod Lengths
 pub mod Breaking

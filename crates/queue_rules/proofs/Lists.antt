@@ -10,6 +10,7 @@ use native.Mathlib.Omega.{arith}
 use lib.ListN.{length, get_or}
 use lib.Dec.{eqb}
 use borrow.Author.Tests.{eqb-true, eqb-false, eq-eqb}
+use Rattle.std.specs.Prelude.{Some, None, Option}
 use Rattle.links.specs.Queue.{walk, ends, which, rearranged, rising, lists, each}
 use Rattle.links.specs.Chain.{In, Once, All}
 use Rattle.links.proofs.Bools.{both, and_true, each_at, each_all}
@@ -28,8 +29,6 @@ use Rattle.board.proofs.Codec.{length-places, place-free, place-held, place-rece
 use Rattle.board.proofs.Pieces.{outside-within}
 use Rattle.paper.specs.Rules.{is_there, present, next_task, next_message, task_number, message_number, rule3, rule5_at}
 use Rattle.paper.proofs.Which.{which-nth}
-use Rattle.queue_rules.specs.declared.Walked.{Walked}
-use Rattle.queue_rules.specs.declared.Walked.TheVariants.{Seen, Broken}
 use Rattle.queue_rules.specs.Walks.{visited, counted, queued, queued_at, queue_walked, behind, walked_on, walked, saw}
 use Rattle.queue_rules.proofs.Visits.{every, orderly, visited_whole, orderly_moves}
 use Rattle.queue_rules.proofs.Counting.{sum_to, sum-zero, sum_once, sum_tight, counted_bound, counted-which, counts_add}
@@ -41,7 +40,7 @@ alike true t f g = sym (f refl)
 alike false true f g = g refl
 alike false false f g = refl
 
-pub saw-cond : (t : Bool) (n m : ℕ) → saw (cond t (Seen n) Broken) m ≡ t && eqb n m
+pub saw-cond : (t : Bool) (n m : ℕ) → saw (cond t (Some n) None) m ≡ t && eqb n m
 saw-cond true n m = refl
 saw-cond false n m = refl
 
@@ -178,7 +177,7 @@ module _ (z : Size) (b : Board) where
   at_task k = length (placed_at k)
 
   -- a walk of at most n links that saw s
-  limited : (n k s : ℕ) → queue_walked b n k ≡ Seen s → n ≤ z.messages → (fine k ≡ true) × (s ≡ seen_at k)
+  limited : (n k s : ℕ) → queue_walked b n k ≡ Some s → n ≤ z.messages → (fine k ≡ true) × (s ≡ seen_at k)
   limited n k s e h =
       step (orderly next number (queued_at b k) n x 0) refl (sym (visited_whole next number (queued_at b k) n x) ∙ e)
     where
@@ -191,52 +190,52 @@ module _ (z : Size) (b : Board) where
       x : ℕ
       x = (task b k).mptr
 
-      step : (t : Bool) → orderly next number (queued_at b k) n x 0 ≡ t → cond t (Seen (length (walk next n x))) Broken ≡ Seen s
+      step : (t : Bool) → orderly next number (queued_at b k) n x 0 ≡ t → cond t (Some (length (walk next n x))) None ≡ Some s
           → (fine k ≡ true) × (s ≡ seen_at k)
       step true o q =
           let r = orderly_moves next number (queued_at b k) n z.messages x 0 o (omega (arith, walk-length next n x)) in
-          (r.0, (let f : Seen (length (walk next n x)) ≡ Seen s = q in let g : s ≡ length (walk next n x) = cc in g) ∙ ap length (sym r.1))
+          (r.0, (let f : Some (length (walk next n x)) ≡ Some s = q in let g : s ≡ length (walk next n x) = cc in g) ∙ ap length (sym r.1))
       step false o q = let f : ◌≡◌ {A = ℕ} 0 1 = cc in absurd (omega arith)
 
   -- and the other way round
-  enough : (n k : ℕ) → fine k ≡ true → seen_at k ≤ n → queue_walked b n k ≡ Seen (seen_at k)
+  enough : (n k : ℕ) → fine k ≡ true → seen_at k ≤ n → queue_walked b n k ≡ Some (seen_at k)
   enough n k e h =
       let r = orderly_moves (next_message b) (message_number b) (queued_at b k) z.messages n (task b k).mptr 0 e h in
       visited_whole (next_message b) (message_number b) (queued_at b k) n (task b k).mptr
-      ∙ ap₂ (λ (t : Bool) (q : List ℕ). cond t (Seen (length q)) Broken) r.0 r.1
+      ∙ ap₂ (λ (t : Bool) (q : List ℕ). cond t (Some (length q)) None) r.0 r.1
 
   -- all walks together
-  walked_fine : (most : ℕ) → most ≤ z.messages → (n s : ℕ) → walked b most n ≡ Seen s
+  walked_fine : (most : ℕ) → most ≤ z.messages → (n s : ℕ) → walked b most n ≡ Some s
       → (each fine n ≡ true) × (s ≡ sum_to seen_at n)
   unfolding walked
-  walked_fine most h zero s e = (refl, let f : Seen 0 ≡ Seen s = e in let g : s ≡ 0 = cc in g)
+  walked_fine most h zero s e = (refl, let f : Some 0 ≡ Some s = e in let g : s ≡ 0 = cc in g)
   walked_fine most h (suc n) s e = step (walked b most n) refl e (walked_fine most h n)
     where
-      inner : (r : ℕ) (w : Walked) → (each fine n ≡ true) × (r ≡ sum_to seen_at n) → queue_walked b (most - r) (suc n) ≡ w
-          → behind r w ≡ Seen s → (each fine (suc n) ≡ true) × (s ≡ sum_to seen_at (suc n))
-      inner r (Seen t) a g q =
+      inner : (r : ℕ) (w : Option ℕ) → (each fine n ≡ true) × (r ≡ sum_to seen_at n) → queue_walked b (most - r) (suc n) ≡ w
+          → behind r w ≡ Some s → (each fine (suc n) ≡ true) × (s ≡ sum_to seen_at (suc n))
+      inner r (Some t) a g q =
           let c = limited (most - r) (suc n) t g (omega arith) in
-          let d : s ≡ r + t = (let i : Seen (r + t) ≡ Seen s = q in let j : s ≡ r + t = cc in j) in
+          let d : s ≡ r + t = (let i : Some (r + t) ≡ Some s = q in let j : s ≡ r + t = cc in j) in
           (and_true (each fine n) (fine (suc n)) a.0 c.0, omega (arith, a.1, c.1))
-      inner r Broken a g q = let i : ◌≡◌ {A = ℕ} 0 1 = cc in absurd (omega arith)
+      inner r None a g q = let i : ◌≡◌ {A = ℕ} 0 1 = cc in absurd (omega arith)
 
-      step : (w : Walked) → walked b most n ≡ w → walked_on w (λ r. queue_walked b (most - r) (suc n)) ≡ Seen s
-          → ((r : ℕ) → walked b most n ≡ Seen r → (each fine n ≡ true) × (r ≡ sum_to seen_at n))
+      step : (w : Option ℕ) → walked b most n ≡ w → walked_on w (λ r. queue_walked b (most - r) (suc n)) ≡ Some s
+          → ((r : ℕ) → walked b most n ≡ Some r → (each fine n ≡ true) × (r ≡ sum_to seen_at n))
           → (each fine (suc n) ≡ true) × (s ≡ sum_to seen_at (suc n))
-      step (Seen r) f q ih = inner r (queue_walked b (most - r) (suc n)) (ih r f) refl q
-      step Broken f q ih = let i : ◌≡◌ {A = ℕ} 0 1 = cc in absurd (omega arith)
+      step (Some r) f q ih = inner r (queue_walked b (most - r) (suc n)) (ih r f) refl q
+      step None f q ih = let i : ◌≡◌ {A = ℕ} 0 1 = cc in absurd (omega arith)
 
   -- each queue is right: then they see what is queued, and may
-  right_walked : (most n : ℕ) → each (rule5_at z b) n ≡ true → sum_to at_task n ≤ most → walked b most n ≡ Seen (sum_to at_task n)
+  right_walked : (most n : ℕ) → each (rule5_at z b) n ≡ true → sum_to at_task n ≤ most → walked b most n ≡ Some (sum_to at_task n)
   unfolding walked
   right_walked most zero e h = refl
   right_walked most (suc n) e h =
       let p = both (each (rule5_at z b) n) (rule5_at z b (suc n)) e in
       let r = both (fine (suc n)) (eqb (seen_at (suc n)) (at_task (suc n))) (sym (rule5_at_lem (suc n)) ∙ p.1) in
       let q = eqb-true (seen_at (suc n)) (at_task (suc n)) r.1 in
-      ap (λ (w : Walked). walked_on w (λ s. queue_walked b (most - s) (suc n))) (right_walked most n p.0 (omega arith))
+      ap (λ (w : Option ℕ). walked_on w (λ s. queue_walked b (most - s) (suc n))) (right_walked most n p.0 (omega arith))
       ∙ ap (behind (sum_to at_task n)) (enough (most - sum_to at_task n) (suc n) r.0 (omega arith))
-      ∙ ap (λ (m : ℕ). Seen (sum_to at_task n + m)) q
+      ∙ ap (λ (m : ℕ). Some (sum_to at_task n + m)) q
 
   -- they saw as many as are queued: then each saw what is queued there
   sum-each : (n : ℕ) → each fine n ≡ true → sum_to seen_at n ≡ sum_to at_task n → each (rule5_at z b) n ≡ true
@@ -249,15 +248,15 @@ module _ (z : Size) (b : Board) where
     saw_right : saw (walked b m z.tasks) m ≡ true → each (rule5_at z b) z.tasks ≡ true
     saw_right = step (walked b m z.tasks) refl
       where
-        step : (w : Walked) → walked b m z.tasks ≡ w → saw w m ≡ true → each (rule5_at z b) z.tasks ≡ true
-        step (Seen s) f q =
+        step : (w : Option ℕ) → walked b m z.tasks ≡ w → saw w m ≡ true → each (rule5_at z b) z.tasks ≡ true
+        step (Some s) f q =
             let a = walked_fine m h z.tasks s f in
             sum-each z.tasks a.0 (sym a.1 ∙ eqb-true s m q ∙ e)
-        step Broken f q = absurd (true≢false (sym q))
+        step None f q = absurd (true≢false (sym q))
 
     right_saw : each (rule5_at z b) z.tasks ≡ true → saw (walked b m z.tasks) m ≡ true
     right_saw q =
-        ap (λ (w : Walked). saw w m) (right_walked m z.tasks q (omega arith)) ∙ eq-eqb (sum_to at_task z.tasks) m (sym e)
+        ap (λ (w : Option ℕ). saw w m) (right_walked m z.tasks q (omega arith)) ∙ eq-eqb (sum_to at_task z.tasks) m (sym e)
 
     rule5_is : saw (walked b m z.tasks) m ≡ each (rule5_at z b) z.tasks
     rule5_is = alike (saw (walked b m z.tasks) m) (each (rule5_at z b) z.tasks) saw_right right_saw
@@ -284,15 +283,15 @@ rule5_one z l k n e =
     q : n ≡ at_task z b k
     q = e ∙ ap (counted (queued_at b k)) (sym (length-places z l)) ∙ counted-which Free (is_queued_at k) 1 b.places
 
-    saw_one : (w : Walked) → queue_walked b n k ≡ w → saw w n ≡ true → rule5_at z b k ≡ true
-    saw_one (Seen s) f g =
+    saw_one : (w : Option ℕ) → queue_walked b n k ≡ w → saw w n ≡ true → rule5_at z b k ≡ true
+    saw_one (Some s) f g =
         let r = limited z b n k s f (omega (arith, e, counted_bound (queued_at b k) z.messages)) in
         let d = eqb-true s n g in
         rule5_at_lem z b k ∙ and_true (fine z b k) _ r.0 (eq-eqb _ _ (sym r.1 ∙ d ∙ q))
-    saw_one Broken f g = absurd (true≢false (sym g))
+    saw_one None f g = absurd (true≢false (sym g))
 
     one_saw : rule5_at z b k ≡ true → saw (queue_walked b n k) n ≡ true
     one_saw g =
         let r = both (fine z b k) (eqb (seen_at z b k) (at_task z b k)) (sym (rule5_at_lem z b k) ∙ g) in
         let d = eqb-true (seen_at z b k) (at_task z b k) r.1 in
-        ap (λ (w : Walked). saw w n) (enough z b n k r.0 (omega (arith, d, q))) ∙ eq-eqb (seen_at z b k) n (d ∙ sym q)
+        ap (λ (w : Option ℕ). saw w n) (enough z b n k r.0 (omega (arith, d, q))) ∙ eq-eqb (seen_at z b k) n (d ∙ sym q)

@@ -1,19 +1,20 @@
 -- What each turn of a loop and each way out of it makes of the definition: a hypothesis for each test and each callee's contract.
 -- Assumes nothing.
-use mathlib.Core.Path.{◌≡◌, refl, sym, ap, ap₂, ◌∙◌}
-use mathlib.Core.Bool.{Bool, true, false, cond}
+use mathlib.Core.Path.{◌≡◌, refl, sym, ap, ◌∙◌}
+use mathlib.Core.Bool.{Bool, true, false, true≢false}
 use Prim.Native.Nat.{ℕ, zero, suc, ◌+◌, ◌-◌, ◌≤◌, ◌<◌}
 use native.Mathlib.Decide.{ℕ_discrete}
 use native.Mathlib.Omega.{arith}
-use lib.Dec.{eqb}
-use borrow.Author.Tests.{eq-eqb, ne_eqb, le-leb, lt-leb}
+use Rattle.std.specs.Prelude.{Some, Option, None}
 use Rattle.links.specs.Queue.{walk, first_with}
 use Rattle.links.proofs.Chains.{walk_step, walk_end}
+use Rattle.board.specs.declared.numbers.Size.{Size}
+use Rattle.board.specs.Numbers.{task_meant}
 use Rattle.board.specs.Board.{Board, task}
+use Rattle.board.proofs.Pieces.{within-outside}
+use Rattle.board.proofs.Meant.{task_meant_none}
 use Rattle.paper.specs.Rules.{next_message, message_number}
-use Rattle.queue_rules.specs.declared.Walked.{Walked}
-use Rattle.queue_rules.specs.declared.Walked.TheVariants.{Seen, Broken}
-use Rattle.queue_rules.specs.Walks.{went, counted, queued_at, queue_walked, behind, walked_on, walked}
+use Rattle.queue_rules.specs.Walks.{counted, queued_at, queue_walked, behind, walked_on, walked}
 use Rattle.queue_rules.proofs.Visits.{visited_bound}
 use Rattle.queue_rules.proofs.Counting.{counted-turn, counted_bound}
 
@@ -36,56 +37,35 @@ module _ (f : ℕ → Bool) (k n : ℕ) (inv : n ≡ counted f k) where
   pub count_bound : n ≤ k
   count_bound = omega (arith, counted_bound f k)
 
--- ---- one link of a walk, however the turn is told
-module _ {A : Type 0} (next number : ℕ → ℕ) (good : ℕ → Bool) (on : ℕ → ℕ → A) (end stray : A) (x low : ℕ) where
-  -- the record does not belong there
-  pub turn_strays : good x ≡ false → stray ≡ went next number good on end stray x low
-  turn_strays e = rw e
-
-  -- its priority number n is below the one before
-  pub turn-falls : (n : ℕ) → good x ≡ true → n ≡ number x → n < low → stray ≡ went next number good on end stray x low
-  turn-falls n e h l = rw (e, lt-leb low (number x) (omega arith))
-
-  -- it belongs there and is the last, or the link v leads on
-  module _ (v n : ℕ) (e : good x ≡ true) (g : v ≡ next x) (h : n ≡ number x) (l : low ≤ n) where
-    pub went_on : cond (eqb v 0) end (on v n) ≡ went next number good on end stray x low
-    went_on = rw (e, le-leb low (number x) (omega arith)) (ap₂ (λ (i j : ℕ). cond (eqb i 0) end (on i j)) g h)
-
-    pub turn_ends : v ≡ 0 → end ≡ went next number good on end stray x low
-    turn_ends f = ap (λ (t : Bool). cond t end (on v n)) (sym (eq-eqb v 0 f)) ∙ went_on
-
-    pub turn_goes_on : (v ≡ 0 → ⊥) → on v n ≡ went next number good on end stray x low
-    turn_goes_on f = ap (λ (t : Bool). cond t end (on v n)) (sym (ne_eqb v 0 f)) ∙ went_on
-
 -- ---- the walks of all queues, one after the other
 module _ (b : Board) (most : ℕ) where
   -- no queue yet
-  pub walks_start : walked b most 0 ≡ Seen 0
+  pub walks_start : walked b most 0 ≡ Some 0
   unfolding walked
   walks_start = refl
 
   -- behind k queues, whose walks saw s
-  module _ (k s : ℕ) (so : walked b most k ≡ Seen s) where
+  module _ (k s : ℕ) (so : walked b most k ≡ Some s) where
     next-walked : walked b most (k + 1) ≡ behind s (queue_walked b (most - s) (k + 1))
     unfolding walked
     next-walked =
         let i : k + 1 ≡ suc k = omega arith in
-        ap (walked b most) i ∙ ap (λ (w : Walked). walked_on w (λ s. queue_walked b (most - s) (suc k))) so
+        ap (walked b most) i ∙ ap (λ (w : Option ℕ). walked_on w (λ s. queue_walked b (most - s) (suc k))) so
         ∙ ap (λ (j : ℕ). behind s (queue_walked b (most - s) j)) (sym i)
 
     -- the walk of the next is broken, so all together are
-    pub walks_break : (n : ℕ) → k < n → Broken ≡ queue_walked b (most - s) (k + 1) → Broken ≡ walked b most n
+    pub walks_break : (n : ℕ) → k < n → None ≡ queue_walked b (most - s) (k + 1) → None ≡ walked b most n
     unfolding walked
     walks_break zero h e = absurd (omega arith)
     walks_break (suc n) h e = step (ℕ_discrete (k + 1) (suc n)) (λ i. walks_break n i e)
       where
-        step : Dec (k + 1 ≡ suc n) → (k < n → Broken ≡ walked b most n) → Broken ≡ walked b most (suc n)
+        step : Dec (k + 1 ≡ suc n) → (k < n → None ≡ walked b most n) → None ≡ walked b most (suc n)
         step (yes i) ih = ap (behind s) e ∙ sym next-walked ∙ ap (walked b most) i
-        step (no i) ih = ap (λ (w : Walked). walked_on w (λ s. queue_walked b (most - s) (suc n))) (ih (omega arith))
+        step (no i) ih = ap (λ (w : Option ℕ). walked_on w (λ s. queue_walked b (most - s) (suc n))) (ih (omega arith))
 
     -- it saw n
-    module _ (n : ℕ) (e : Seen n ≡ queue_walked b (most - s) (k + 1)) where
-      pub walks_on : walked b most (k + 1) ≡ Seen (s + n)
+    module _ (n : ℕ) (e : Some n ≡ queue_walked b (most - s) (k + 1)) where
+      pub walks_on : walked b most (k + 1) ≡ Some (s + n)
       walks_on = next-walked ∙ ap (behind s) (sym e)
 
       -- no more than it may
@@ -110,3 +90,8 @@ module _ (f : ℕ → Bool) (next : ℕ → ℕ) (n x : ℕ) {r : ℕ} (inv : fi
   -- it is behind this one
   pub first_behind : {v : ℕ} → v ≡ next x → 0 < n → (x ≡ 0 → ⊥) → f x ≡ false → first_with f (walk next (n - 1) v) ≡ r
   first_behind {v} s h g e = rw (← inv, walk_step next n x h (omega arith), first_with, e, s)
+
+-- a number that a loop counts means a task
+pub counted_there : (z : Size) (k : ℕ) → k < z.tasks → task_meant z (k + 1) ≡ None → ⊥
+counted_there z k h e =
+    true≢false (sym (task_meant_none z (k + 1) e) ∙ within-outside z.tasks (k + 1) (omega arith) (omega arith))

@@ -20,11 +20,10 @@ use Rattle.board.specs.Places.{is_on_timer}
 use Rattle.board.specs.Board.{Board, total, board_of, place}
 use Rattle.board.specs.Claims.{Bytes}
 use Rattle.paper.specs.declared.call.Call.{Call}
-use Rattle.paper.specs.declared.answer.Answer.{Answer}
-use Rattle.paper.specs.declared.answer.Answer.TheVariants.{Accepted}
 use Rattle.paper.specs.Rules.{passes}
 use Rattle.paper.specs.Outcomes.{blank, Ends, fresh, check}
 use Rattle.paper.specs.History.{run, Made}
+use Rattle.paper.specs.Answers.{Answer, accepts}
 use Rattle.kept.specs.Settled.{AllFit}
 use Rattle.kept.specs.Claims.{Sizes}
 use Rattle.past.specs.Past.{past}
@@ -46,7 +45,7 @@ HasPast =
 
 -- ---- which past
 abbrev pub IsAccepted : Answer → Type 0
-IsAccepted a = (v : ℕ) × (c : ℕ) × (m : ℕ) × (a ≡ Accepted v c m)
+IsAccepted a = (v : ℕ) × (c : ℕ) × (m : ℕ) × (a ≡ accepts v c m)
 
 abbrev pub PastRebuilds : Type 0
 PastRebuilds =

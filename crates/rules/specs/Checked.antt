@@ -11,13 +11,11 @@
 --   rule1_of e c zeros  R1 of byte 1 and of bytes 2 and 3
 --   checked_of e z b    passes with the running task, or broken with the rule that is named, by the rules of that edition
 -- Assumes nothing.
-use Rattle.std.specs.Prelude.{Bool, cond, not, ◌&&◌, List, ℕ, ◌%◌, eqb, ltb}
+use Rattle.std.specs.Prelude.{Bool, cond, not, ◌&&◌, List, ℕ, ◌%◌, eqb, ltb, Option, Some, None, Result, Err, Ok}
 use Rattle.links.specs.Queue.{each, smallest_failing}
 use Rattle.board.specs.declared.numbers.Size.{Size}
-use Rattle.board.specs.declared.numbers.TaskMeant.{TaskMeant}
-use Rattle.board.specs.declared.numbers.TaskMeant.TheVariants.{Task, NoTask}
-use Rattle.board.specs.declared.numbers.MessageMeant.{MessageMeant}
-use Rattle.board.specs.declared.numbers.MessageMeant.TheVariants.{NoMessage}
+use Rattle.board.specs.declared.numbers.TaskNo.{TaskNo}
+use Rattle.board.specs.declared.numbers.MsgNo.{MsgNo}
 use Rattle.board.specs.declared.records.Message.{Message}
 use Rattle.board.specs.declared.places.Place.{Place}
 use Rattle.board.specs.Numbers.{task_meant, number_of_task, message_meant}
@@ -25,6 +23,7 @@ use Rattle.board.specs.Status.{MHBS, has}
 use Rattle.board.specs.Places.{is_on_timer}
 use Rattle.board.specs.Board.{Board, task, message, place}
 use Rattle.paper.specs.Rules.{present, task_number, ready, first_ready, all_zero, good_message, rule2_at, rule6_at, rules2to6, passes}
+use Rattle.paper.specs.declared.answer.Rule.{Rule}
 use Rattle.paper.specs.declared.answer.Rule.TheVariants.{R7}
 use Rattle.paper.specs.Named.{broken2to6, broken_rule}
 use Rattle.paper.specs.Conversion.{old_passes, old_broken}
@@ -33,10 +32,12 @@ use Rattle.rules.specs.declared.records.Tasks.{Tasks}
 use Rattle.rules.specs.declared.records.Messages.{Messages}
 use Rattle.rules.specs.declared.Edition.{Edition}
 use Rattle.rules.specs.declared.Edition.TheVariants.{Today, Old}
-use Rattle.rules.specs.declared.Checked.{Checked}
-use Rattle.rules.specs.declared.Checked.TheVariants.{Broken, Passes}
 
-abbrev pub messages_of : MessageMeant → ℕ → Messages
+-- a broken rule, or who runs
+abbrev pub Checked : Type 0
+Checked = Result (Option TaskNo) Rule
+
+abbrev pub messages_of : Option MsgNo → ℕ → Messages
 messages_of m n = record { breaks4 = m; queued = n }
 
 -- when boards were saved no message was on the timer
@@ -49,44 +50,44 @@ rule4_of edition z b m = good_by edition z (present b) (message b m) (place b m)
 
 abbrev pub messages_if : Edition → Size → Board → Bool → Messages
 messages_if edition z b kept =
-    cond kept (messages_of NoMessage (counted (queued b) z.messages))
+    cond kept (messages_of None (counted (queued b) z.messages))
     (messages_of (message_meant z (smallest_failing (rule4_of edition z b) z.messages)) 0)
 
 abbrev pub messages_seen : Edition → Size → Board → Messages
 messages_seen edition z b = messages_if edition z b (each (rule4_of edition z b) z.messages)
 
-abbrev pub tasks_of : TaskMeant → TaskMeant → ℕ → Tasks
+abbrev pub tasks_of : Option TaskNo → (Option TaskNo) → ℕ → Tasks
 tasks_of k j n = record { breaks2 = k; breaks6 = j; present = n }
 
 abbrev pub tasks_if : Size → Board → Bool → Tasks
 tasks_if z b kept =
-    cond kept (tasks_of NoTask (breaking z (rule6_at b)) (counted (present b) z.tasks)) (tasks_of (breaking z (rule2_at b)) NoTask 0)
+    cond kept (tasks_of None (breaking z (rule6_at b)) (counted (present b) z.tasks)) (tasks_of (breaking z (rule2_at b)) None 0)
 
 abbrev pub tasks_seen : Size → Board → Tasks
 tasks_seen z b = tasks_if z b (each (rule2_at b) z.tasks)
 
-abbrev pub earlier : TaskMeant → TaskMeant → TaskMeant
-earlier (Task k) t = Task k
-earlier NoTask t = t
+abbrev pub earlier : Option TaskNo → (Option TaskNo) → (Option TaskNo)
+earlier (Some k) t = Some k
+earlier None t = t
 
 abbrev pub between_of : Edition → Size → Board → Checked
 between_of edition z b = let r4 = rule4_of edition z b in
-    cond (rules2to6 z b r4) (Passes (task_meant z (first_ready z b))) (Broken (broken2to6 z b r4))
+    cond (rules2to6 z b r4) (Ok (task_meant z (first_ready z b))) (Err (broken2to6 z b r4))
 
 abbrev pub leads_with : Board → ℕ → ℕ → Bool
 leads_with b c f = ready b c && not (ltb (task_number b f) (task_number b c)) && not (has (task b c).stat MHBS)
 
-abbrev pub runs_with : Board → ℕ → TaskMeant → Bool
-runs_with b c (Task f) = leads_with b c f.0
-runs_with b c NoTask = eqb c 0
+abbrev pub runs_with : Board → ℕ → Option TaskNo → Bool
+runs_with b c (Some f) = leads_with b c f.0
+runs_with b c None = eqb c 0
 
-abbrev pub ran_of : Size → Board → TaskMeant → Checked
-ran_of z b first = let c = b.running in cond (runs_with b c first) (Passes (task_meant z c)) (Broken (R7 c))
+abbrev pub ran_of : Size → Board → Option TaskNo → Checked
+ran_of z b first = let c = b.running in cond (runs_with b c first) (Ok (task_meant z c)) (Err (R7 c))
 
-abbrev pub old_ran_of : Board → TaskMeant → Checked
-old_ran_of b first = let c = number_of_task first in cond (has (task b c).stat MHBS) (Broken (R7 (c % 256))) (Passes first)
+abbrev pub old_ran_of : Board → Option TaskNo → Checked
+old_ran_of b first = let c = number_of_task first in cond (has (task b c).stat MHBS) (Err (R7 (c % 256))) (Ok first)
 
-abbrev pub ran_by : Edition → Size → Board → TaskMeant → Checked
+abbrev pub ran_by : Edition → Size → Board → Option TaskNo → Checked
 ran_by Today z b first = ran_of z b first
 ran_by Old z b first = old_ran_of b first
 
@@ -95,5 +96,5 @@ rule1_of Today c zeros = all_zero zeros
 rule1_of Old c zeros = eqb c 0 && all_zero zeros
 
 abbrev pub checked_of : Edition → Size → Board → Checked
-checked_of Today z b = cond (passes z b) (Passes (task_meant z b.running)) (Broken (broken_rule z b))
-checked_of Old z b = cond (old_passes z b) (Passes (task_meant z (first_ready z b))) (Broken (old_broken z b))
+checked_of Today z b = cond (passes z b) (Ok (task_meant z b.running)) (Err (broken_rule z b))
+checked_of Old z b = cond (old_passes z b) (Ok (task_meant z (first_ready z b))) (Err (old_broken z b))

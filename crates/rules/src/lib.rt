@@ -7,15 +7,15 @@
 pub mod records;
 pub mod runner;
 
-ghost use Rattle.std.specs.Prelude.{◌≡◌, ◌≤◌, ◌<◌, length, get_or, take, drop};
-ghost use Rattle.board.specs.Board.{total, board_of};
+ghost use Rattle.std.specs.Prelude.{◌≡◌, ◌<◌, get_or, take, drop};
+ghost use Rattle.lent.specs.Lent.{board};
 ghost use Rattle.rules.specs.Checked.{between_of, rule1_of, checked_of};
 
 use crate::records::{rule1, survey_messages, survey_tasks};
 use crate::runner::rule7_of;
-use board::numbers::{MessageMeant, Size, TaskMeant};
-use lent::bytes::byte;
-use order_rules::tasks::{Order, rule3};
+use board::numbers::TaskNo;
+use lent::bytes::{Lent, byte};
+use order_rules::tasks::rule3;
 use paper::answer::Rule;
 use queue_rules::rule5;
 
@@ -26,42 +26,30 @@ pub enum Edition {
     Old,
 }
 
-// What the check found: a broken rule and the record, or that this task runs.
-#[derive(Clone, Copy)]
-pub enum Checked {
-    Broken(Rule),
-    Passes(TaskMeant),
-}
+// What the check found: that this task runs, or a broken rule and the record.
+pub type Checked = Result<Option<TaskNo>, Rule>;
 
-// R2 to R6 by this edition; where they hold, the first ready task. The answer has the form of the whole check's, so that a broken rule is
-// handed on as it is.
-fn check_2_to_6(edition: Edition, z: Size, l: &[u8]) -> Checked
-    requires { (total z ≤ length l.now) × (z.tasks < 256) }
-    ensures { result ≡ between_of edition z (board_of z l.now) }
+// R2 to R6 by this edition; where they hold, the first ready task.
+fn check_2_to_6(edition: Edition, l: Lent<'_>) -> Checked
+    requires { l.size.tasks < 256 }
+    ensures { result ≡ between_of edition l.entry.size (board l.entry) }
 {
-    let tasks = survey_tasks(z, l);
-    let breaks2 = tasks.breaks2;
-    if let TaskMeant::Task(k) = breaks2 {
-        return Checked::Broken(Rule::R2(k));
+    let tasks = survey_tasks(l);
+    if let Some(k) = tasks.breaks2 {
+        return Err(Rule::R2(k));
     }
-    let order = rule3(z, l, tasks.present);
-    let Order::Listed(first) = order else {
-        return Checked::Broken(Rule::R3);
-    };
-    let messages = survey_messages(edition, z, l);
-    let breaks4 = messages.breaks4;
-    if let MessageMeant::Message(m) = breaks4 {
-        return Checked::Broken(Rule::R4(m));
+    let first = rule3(l, tasks.present)?;
+    let messages = survey_messages(edition, l);
+    if let Some(m) = messages.breaks4 {
+        return Err(Rule::R4(m));
     }
-    let breaks5 = rule5(z, l, messages.queued);
-    if let TaskMeant::Task(k) = breaks5 {
-        return Checked::Broken(Rule::R5(k));
+    if let Some(k) = rule5(l, messages.queued) {
+        return Err(Rule::R5(k));
     }
-    let breaks6 = tasks.breaks6;
-    if let TaskMeant::Task(k) = breaks6 {
-        return Checked::Broken(Rule::R6(k));
+    if let Some(k) = tasks.breaks6 {
+        return Err(Rule::R6(k));
     }
-    Checked::Passes(first)
+    Ok(first)
 }
 
 // R1: bytes 2 and 3 are zero; byte 1 too where boards were saved.
@@ -70,26 +58,18 @@ fn rule1_of(edition: Edition, l: &[u8]) -> bool
 {
     match edition {
         Edition::Today => rule1(l),
-        Edition::Old => {
-            if byte(l, 1) != 0 {
-                return false;
-            }
-            rule1(l)
-        }
+        Edition::Old => byte(l, 1) == 0 && rule1(l),
     }
 }
 
 // The check by the rules of this edition. There is one for both, so that the library has it once and compiled for its size.
-pub fn check_rules(edition: Edition, z: Size, l: &[u8]) -> Checked
-    requires { (total z ≤ length l.now) × (z.tasks < 256) }
-    ensures { result ≡ checked_of edition z (board_of z l.now) }
+pub fn check_rules(edition: Edition, l: Lent<'_>) -> Checked
+    requires { l.size.tasks < 256 }
+    ensures { result ≡ checked_of edition l.entry.size (board l.entry) }
 {
-    if !rule1_of(edition, l) {
-        return Checked::Broken(Rule::R1);
+    if !rule1_of(edition, l.bytes) {
+        return Err(Rule::R1);
     }
-    let between = check_2_to_6(edition, z, l);
-    let Checked::Passes(first) = between else {
-        return between;
-    };
-    rule7_of(edition, z, l, first)
+    let first = check_2_to_6(edition, l)?;
+    rule7_of(edition, l, first)
 }

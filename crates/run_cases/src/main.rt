@@ -6,11 +6,11 @@
 // as tplace=value. So any other maker's answers can be compared with ours as text.
 #![tactic(auto)]
 
-ghost use Rattle.std.specs.Prelude.{◌<◌};
+ghost use Rattle.std.specs.Prelude.{◌≤◌};
 
-use for_c::asked::{Asked, call_of_kind};
+use for_c::asked::call_of_kind;
 use for_c::pack::{record_number, refusal_number, rule_number};
-use paper::answer::{Answer, Refusal};
+use paper::answer::{Accepted, Answer, Refusal};
 use paper::call::Call;
 use std::io;
 use std::io::{ErrorKind, Read, Write};
@@ -27,135 +27,73 @@ enum Request {
     NoCall,
 }
 
-fn wide(x: u8) -> u16
-    ensures { result < 256 }
-{
-    x as u16
+// Why no case is answered any more.
+#[derive(Drop)]
+enum Stop {
+    End,
+    CutShort(&'static str),
+    Failed(io::Error),
 }
 
-// A word from its low byte and its high byte.
-fn word(low: u8, high: u8) -> u16 {
-    wide(low) + 256 * wide(high)
+impl From<io::Error> for Stop {
+    fn from(e: io::Error) -> Stop {
+        Stop::Failed(e)
+    }
 }
 
-fn print_number<W: Write>(out: &mut W, n: u16) -> io::Result<()> {
-    write!(out, "{n}")
-}
-
-fn print_text<W: Write>(out: &mut W, text: &[u8]) -> io::Result<()> {
-    out.write_all(text)
+// All of the space is read, or the input ends before.
+fn read_whole<R: Read>(input: &mut R, space: &mut [u8], before: Stop) -> Result<(), Stop> {
+    match input.read_exact(space) {
+        Ok(()) => Ok(()),
+        Err(e) if e.kind() == ErrorKind::UnexpectedEof => Err(before),
+        Err(e) => Err(Stop::Failed(e)),
+    }
 }
 
 // The broken rule and its record, zeros where the refusal is another.
 fn print_rule<W: Write>(out: &mut W, q: Refusal) -> io::Result<()> {
     let Refusal::RuleBroken(r) = q else {
-        return print_text(out, b"0 0");
+        return write!(out, "0 0");
     };
-    print_number(out, wide(rule_number(r)))?;
-    print_text(out, b" ")?;
-    print_number(out, record_number(r))
+    write!(out, "{} {}", rule_number(r), record_number(r))
 }
 
 fn print_answer<W: Write>(out: &mut W, a: Answer) -> io::Result<()> {
     match a {
-        Answer::Accepted {
-            value,
-            running,
-            delivered,
-        } => {
-            print_text(out, b"0 ")?;
-            print_number(out, value)?;
-            print_text(out, b" ")?;
-            print_number(out, running)?;
-            print_text(out, b" ")?;
-            print_number(out, delivered)?;
-            print_text(out, b" 0 0")?;
+        Ok(
+            Accepted {
+                value,
+                running,
+                delivered,
+            },
+        ) => write!(out, "0 {value} {running} {delivered} 0 0"),
+        Err(q) => {
+            write!(out, "{} 0 0 0 ", refusal_number(q))?;
+            print_rule(out, q)
         }
-        Answer::Refused(q) => {
-            print_number(out, wide(refusal_number(q)))?;
-            print_text(out, b" 0 0 0 ")?;
-            print_rule(out, q)?;
+    }
+}
+
+// Each byte that changed, behind the mark of its buffer.
+fn print_changes<W: Write>(out: &mut W, mark: &str, before: &[u8], after: &[u8]) -> io::Result<()> {
+    for (i, (was, is)) in before.iter().zip(after).enumerate() {
+        if was != is {
+            write!(out, " {mark}{i}={is}")?;
         }
     }
     Ok(())
-}
-
-// A byte that changed, behind the mark of its buffer.
-fn print_change<W: Write>(out: &mut W, mark: &[u8], i: usize, v: u8) -> io::Result<()> {
-    print_text(out, mark)?;
-    write!(out, "{i}")?;
-    print_text(out, b"=")?;
-    print_number(out, wide(v))
-}
-
-fn print_changes<W: Write>(
-    out: &mut W,
-    mark: &[u8],
-    before: &[u8],
-    after: &[u8],
-) -> io::Result<()> {
-    let n = before.len();
-    let mut i: usize = 0;
-    while i < n {
-        if i < after.len() {
-            if before[i] != after[i] {
-                print_change(out, mark, i, after[i])?;
-            }
-        }
-        i += 1;
-    }
-    Ok(())
-}
-
-fn put(to: &mut [u8], i: usize, v: u8) {
-    if i < to.len() {
-        to[i] = v;
-    }
-}
-
-fn copy(from: &[u8], to: &mut [u8]) {
-    let n = from.len();
-    let mut i: usize = 0;
-    while i < n {
-        put(to, i, from[i]);
-        i += 1;
-    }
-}
-
-// All of the space read; false where the input ends before.
-fn read_whole<R: Read>(input: &mut R, space: &mut [u8]) -> io::Result<bool> {
-    match input.read_exact(space) {
-        Ok(()) => Ok(true),
-        Err(e) => {
-            if e.kind() == ErrorKind::UnexpectedEof {
-                return Ok(false);
-            }
-            Err(e)
-        }
-    }
 }
 
 // The call by its kind and first words, and as one of the nineteen where it is one.
-fn request_of(kind: u8, a: u16, b: u16, asked: Asked) -> Request {
-    if kind == 0 {
-        return Request::Check;
+fn request_of(kind: u8, a: u16, b: u16, call: Option<Call>) -> Request {
+    match kind {
+        0 => Request::Check,
+        200 => Request::Start { m: a, delay: b },
+        201 => Request::Tick,
+        253 => Request::Convert,
+        254 => Request::Fresh,
+        _ => call.map_or(Request::NoCall, Request::Make),
     }
-    if kind == 200 {
-        return Request::Start { m: a, delay: b };
-    }
-    if kind == 201 {
-        return Request::Tick;
-    }
-    if kind == 253 {
-        return Request::Convert;
-    }
-    if kind == 254 {
-        return Request::Fresh;
-    }
-    let Asked::Made(call) = asked else {
-        return Request::NoCall;
-    };
-    Request::Make(call)
 }
 
 fn answer_to<W: Write>(
@@ -171,162 +109,91 @@ fn answer_to<W: Write>(
         Request::Start { m, delay } => print_answer(out, station::start(board, timer, m, delay)),
         Request::Tick => print_answer(out, station::tick(board, timer)),
         Request::Make(call) => print_answer(out, station::step(board, call)),
-        Request::NoCall => print_text(out, b"255 0 0 0 0 0"),
+        Request::NoCall => write!(out, "255 0 0 0 0 0"),
     }
 }
 
-// The timer buffer read, what is asked made on copies of board and buffer, and its line; false where the buffer is cut short.
-fn answer_case<R: Read, W: Write>(
+// The timer buffer of n bytes is read, what is asked is made on copies of board and buffer, and its line is written.
+fn on_timer<R: Read, W: Write, const N: usize>(
     input: &mut R,
     out: &mut W,
     request: Request,
-    before: &[u8],
+    board: &[u8],
     after: &mut [u8],
-    timer: &mut [u8],
-    left: &mut [u8],
-) -> io::Result<bool> {
-    if !read_whole(input, timer)? {
-        print_text(out, b"error: the last timer buffer is cut short\n")?;
-        return Ok(false);
-    }
-    copy(before, after);
-    copy(timer, left);
-    answer_to(out, request, after, left)?;
-    print_changes(out, b" ", before, after)?;
-    print_changes(out, b" t", timer, left)?;
-    print_text(out, b"\n")?;
-    Ok(true)
+    n: usize,
+) -> Result<(), Stop>
+    requires { (n ≤ N) × (N ≤ 65536) }
+{
+    let mut timer = [0u8; N];
+    read_whole(input, &mut timer[..n], Stop::CutShort("timer buffer"))?;
+    let mut left = timer;
+    answer_to(out, request, after, &mut left[..n])?;
+    print_changes(out, "", board, after)?;
+    print_changes(out, "t", &timer[..n], &left[..n])?;
+    Ok(write!(out, "\n")?)
 }
 
-// The timer buffer of n bytes comes next. The large buffers cost more than the call, so they are for long ones only.
-fn on_timer<R: Read, W: Write>(
-    input: &mut R,
-    out: &mut W,
-    request: Request,
-    before: &[u8],
-    after: &mut [u8],
-    n: u16,
-) -> io::Result<bool> {
-    let end = n as usize;
-    if n <= 64 {
-        let mut timer = [0u8; 64];
-        let mut left = [0u8; 64];
-        return answer_case(
-            input,
-            out,
-            request,
-            before,
-            after,
-            &mut timer[..end],
-            &mut left[..end],
-        );
-    }
-    let mut timer = [0u8; 65536];
-    let mut left = [0u8; 65536];
-    answer_case(
-        input,
-        out,
-        request,
-        before,
-        after,
-        &mut timer[..end],
-        &mut left[..end],
-    )
-}
-
-// The same where its length comes before it.
-fn on_told_timer<R: Read, W: Write>(
-    input: &mut R,
-    out: &mut W,
-    request: Request,
-    before: &[u8],
-    after: &mut [u8],
-) -> io::Result<bool> {
+// The length of the timer buffer comes before it. Where none is handed over there is none to read.
+fn timer_length<R: Read>(input: &mut R, request: Request) -> Result<u16, Stop> {
+    let (Request::Start { .. } | Request::Tick) = request else {
+        return Ok(0);
+    };
     let mut length = [0u8; 2];
-    if !read_whole(input, &mut length)? {
-        print_text(out, b"error: the last timer buffer is cut short\n")?;
-        return Ok(false);
-    }
-    on_timer(
-        input,
-        out,
-        request,
-        before,
-        after,
-        word(length[0], length[1]),
-    )
+    read_whole(input, &mut length, Stop::CutShort("timer buffer"))?;
+    Ok(u16::from_le_bytes(length))
 }
 
-// The board read, and the rest of the case; false where it is cut short. Where no timer buffer is handed over there is none to
-// read.
-fn with_board<R: Read, W: Write>(
+// The board of n bytes is read, and the rest of the case. The large buffers cost more than the call, so they are for long ones
+// only.
+fn on_board<R: Read, W: Write, const N: usize>(
     input: &mut R,
     out: &mut W,
     request: Request,
-    before: &mut [u8],
-    after: &mut [u8],
-) -> io::Result<bool> {
-    if !read_whole(input, before)? {
-        print_text(out, b"error: the last board is cut short\n")?;
-        return Ok(false);
+    n: usize,
+) -> Result<(), Stop>
+    requires { (n ≤ N) × (N ≤ 65536) }
+{
+    let mut board = [0u8; N];
+    read_whole(input, &mut board[..n], Stop::CutShort("board"))?;
+    let mut after = board;
+    let end = timer_length(input, request)? as usize;
+    if end <= 64 {
+        return on_timer::<R, W, 64>(input, out, request, &board[..n], &mut after[..n], end);
     }
-    match request {
-        Request::Start { m: _, delay: _ } => on_told_timer(input, out, request, before, after),
-        Request::Tick => on_told_timer(input, out, request, before, after),
-        _ => on_timer(input, out, request, before, after, 0),
-    }
+    on_timer::<R, W, 65536>(input, out, request, &board[..n], &mut after[..n], end)
 }
 
-// The board of n bytes comes next; large buffers as above.
-fn on_board<R: Read, W: Write>(
-    input: &mut R,
-    out: &mut W,
-    request: Request,
-    n: u16,
-) -> io::Result<bool> {
-    let end = n as usize;
-    if n <= 4096 {
-        let mut before = [0u8; 4096];
-        let mut after = [0u8; 4096];
-        return with_board(input, out, request, &mut before[..end], &mut after[..end]);
-    }
-    let mut before = [0u8; 65536];
-    let mut after = [0u8; 65536];
-    with_board(input, out, request, &mut before[..end], &mut after[..end])
-}
-
-// One case; false at the end of the input, or where it is cut short.
-fn one_case<R: Read, W: Write>(input: &mut R, out: &mut W) -> io::Result<bool> {
+fn one_case<R: Read, W: Write>(input: &mut R, out: &mut W) -> Result<(), Stop> {
     let mut head = [0u8; 11];
-    if !read_whole(input, &mut head[..1])? {
-        return Ok(false);
+    read_whole(input, &mut head[..1], Stop::End)?;
+    read_whole(input, &mut head[1..], Stop::CutShort("call"))?;
+    let [low, high, kind, a, a1, b, b1, c, c1, stat, prio] = head;
+    let a = u16::from_le_bytes([a, a1]);
+    let b = u16::from_le_bytes([b, b1]);
+    let c = u16::from_le_bytes([c, c1]);
+    let request = request_of(kind, a, b, call_of_kind(kind, a, b, c, stat, prio));
+    let n = u16::from_le_bytes([low, high]) as usize;
+    if n <= 4096 {
+        return on_board::<R, W, 4096>(input, out, request, n);
     }
-    if !read_whole(input, &mut head[1..])? {
-        print_text(out, b"error: the last call is cut short\n")?;
-        return Ok(false);
+    on_board::<R, W, 65536>(input, out, request, n)
+}
+
+// The cases one after the other, as many as there are.
+fn answer_all<R: Read, W: Write>(input: &mut R, out: &mut W) -> Result<(), Stop> {
+    for _ in 0..u64::MAX {
+        one_case(input, out)?;
     }
-    let kind = head[2];
-    let a = word(head[3], head[4]);
-    let b = word(head[5], head[6]);
-    let asked = call_of_kind(kind, a, b, word(head[7], head[8]), head[9], head[10]);
-    on_board(
-        input,
-        out,
-        request_of(kind, a, b, asked),
-        word(head[0], head[1]),
-    )
+    Ok(())
 }
 
 // Nothing is read ahead or kept back, so that who hands over the cases may wait for each line.
 fn main(rt: HostRuntime) -> io::Result<()> {
-    let mut input = rt.stdin();
     let mut out = rt.stdout();
-    let mut turns = u64::MAX;
-    while turns > 0 {
-        if !one_case(&mut input, &mut out)? {
-            return out.flush();
-        }
-        turns -= 1;
+    match answer_all(&mut rt.stdin(), &mut out) {
+        Err(Stop::Failed(e)) => return Err(e),
+        Err(Stop::CutShort(what)) => write!(out, "error: the last {what} is cut short\n")?,
+        Ok(()) | Err(Stop::End) => {}
     }
     out.flush()
 }

@@ -1,125 +1,107 @@
 // The messages of a task, three to a line: a number, its priority, and who sent it to whom.
-ghost use Rattle.std.specs.Prelude.{◌≤◌, length};
-ghost use Rattle.board.specs.Numbers.{small};
-ghost use Rattle.board.specs.Board.{total};
+ghost use Rattle.std.specs.Iterator.{UpTo};
 
-use board::numbers::{MessageMeant, Size, TaskNo};
-use board::priority::{fifo, number};
-use board::records::Message;
+use board::numbers::{MsgNo, Number, TaskNo};
+use board::priority::number;
 use lent::by_word::{message_meant, place_meant};
-use lent::bytes::message_at;
+use lent::bytes::Lent;
 use std::io;
 use std::io::Write;
-use telling::print::{decimal_in, pad, text};
+use telling::order::order;
+use telling::walks::queue;
 
-// Where message n of a list goes: the first behind the label, every third below it, the others beside the one before, which left
-// some columns empty.
-fn start<W: Write>(out: &mut W, label: &[u8], n: u16, empty: u16) -> io::Result<()> {
-    if n == 0 {
-        pad(out, 0, 8)?;
-        text(out, label)?;
-        return Ok(());
-    }
-    if n % 3 == 0 {
-        text(out, b"\n")?;
-        pad(out, 0, 13)?;
-        return Ok(());
-    }
-    pad(out, 0, empty as usize + 3)?;
-    Ok(())
+// What is shown of a message, with FIFO or LIFO where that is said.
+#[derive(Clone, Copy)]
+struct Shown {
+    message: u16,
+    prio: u8,
+    order: Option<&'static str>,
+    from: u16,
+    to: u16,
 }
 
-fn end<W: Write>(out: &mut W, n: u16) -> io::Result<()> {
-    if 0 < n {
-        text(out, b"\n")?;
+// Where message n of a list goes: the first behind the label, every third below it, the others beside the one before, so many
+// columns behind its end.
+fn start<W: Write>(out: &mut W, label: &str, n: usize, gap: Option<usize>) -> io::Result<()> {
+    match gap {
+        None => write!(out, "{:8}{label}", ""),
+        Some(_) if n % 3 == 0 => write!(out, "\n{:13}", ""),
+        Some(gap) => write!(out, "{:gap$}", ""),
     }
-    Ok(())
 }
 
-// Who sent it and to whom, where there is one. Answers how many columns are left empty at the end.
-fn show_ends<W: Write>(out: &mut W, from: u16, to: u16) -> io::Result<u16> {
-    if from == 0 {
-        if to == 0 {
-            return Ok(14);
+// Who sent it and to whom, where there is one. Answers how many columns behind its end the next begins.
+fn show_ends<W: Write>(out: &mut W, from: u16, to: u16) -> io::Result<usize> {
+    match (from, to) {
+        (0, 0) => return Ok(17),
+        (_, 0) => {
+            write!(out, " from {from:2}")?;
+            return Ok(9);
         }
-        pad(out, 0, 8)?;
-    } else {
-        text(out, b" from ")?;
-        decimal_in(out, from as u64, 2)?;
+        (0, _) => write!(out, "{:8} to {to:2}", "")?,
+        _ => write!(out, " from {from:2} to {to:2}")?,
     }
-    if to == 0 {
-        return Ok(6);
-    }
-    text(out, b" to ")?;
-    decimal_in(out, to as u64, 2)?;
-    Ok(0)
+    Ok(3)
 }
 
-fn show_number<W: Write>(out: &mut W, m: u16, prio: u8) -> io::Result<()> {
-    decimal_in(out, m as u64, 4)?;
-    text(out, b" prio ")?;
-    decimal_in(out, number(prio) as u64, 3)?;
-    Ok(())
-}
-
-fn show_held_one<W: Write>(out: &mut W, m: u16, u: Message) -> io::Result<u16> {
-    show_number(out, m, u.prio)?;
-    if fifo(u.prio) {
-        text(out, b" FIFO")?;
-    } else {
-        text(out, b" LIFO")?;
+fn show_one<W: Write>(out: &mut W, u: Shown) -> io::Result<usize> {
+    write!(out, "{:4} prio {:3}", u.message, number(u.prio))?;
+    if let Some(order) = u.order {
+        write!(out, " {order}")?;
     }
-    show_ends(out, u.sptr, u.rptr)
+    show_ends(out, u.from, u.to)
 }
 
-// RPTR is shown where it is not the task whose queue this is: the message was forwarded or returned.
-fn show_queued_one<W: Write>(out: &mut W, m: u16, u: Message, k: TaskNo) -> io::Result<u16> {
-    show_number(out, m, u.prio)?;
-    if u.rptr == k.number() {
-        return show_ends(out, u.sptr, 0);
-    }
-    show_ends(out, u.sptr, u.rptr)
-}
-
-pub(crate) fn show_held<W: Write>(out: &mut W, l: &[u8], k: TaskNo) -> io::Result<()>
-    requires { total small ≤ length l.now }
+fn show_list<W: Write, I: Iterator<Item = Shown>>(
+    out: &mut W,
+    label: &str,
+    list: I,
+) -> io::Result<()>
+    requires can_next { I.can_next list }
+    requires up_to { UpTo (I.remaining list) 65535 }
 {
-    let mut m: u16 = 0;
-    let mut n: u16 = 0;
-    let mut empty: u16 = 0;
-    while m < 128 {
-        m += 1;
-        let p = place_meant(Size::SMALL, l, m);
-        if p.is_held_by(k) {
-            start(out, b"holds", n, empty)?;
-            empty = show_held_one(out, m, message_meant(Size::SMALL, l, m))?;
-            n += 1;
-        }
+    let mut gap = None;
+    for (n, u) in list.enumerate() {
+        start(out, label, n, gap)?;
+        gap = Some(show_one(out, u)?);
     }
-    end(out, n)
+    if gap.is_some() {
+        writeln!(out)?;
+    }
+    Ok(())
 }
 
-// The queue in its order. It has no more than the 128 blocks of the board.
+fn held(l: Lent<'_>, m: u16) -> Shown {
+    let u = message_meant(l, m);
+    Shown {
+        message: m,
+        prio: u.prio,
+        order: Some(order(u.prio)),
+        from: u.sptr,
+        to: u.rptr,
+    }
+}
+
+pub(crate) fn show_held<W: Write>(out: &mut W, l: Lent<'_>, k: TaskNo) -> io::Result<()> {
+    let all = (1..=l.size.messages)
+        .filter(|m| place_meant(l, *m).is_held_by(k))
+        .map(|m| held(l, m));
+    show_list(out, "holds", all)
+}
+
+// The queue in its order. RPTR is shown where it is not the task whose queue this is: the message was forwarded or returned.
 pub(crate) fn show_queue<W: Write>(
     out: &mut W,
-    l: &[u8],
+    l: Lent<'_>,
     k: TaskNo,
-    first: MessageMeant,
-) -> io::Result<()>
-    requires { total small ≤ length l.now }
-{
-    let mut next = first;
-    let mut n: u16 = 0;
-    let mut empty: u16 = 0;
-    while n < 128 {
-        let MessageMeant::Message(m) = next else {
-            break;
-        };
-        let u = message_at(Size::SMALL, l, m);
-        start(out, b"queue", n, empty)?;
-        empty = show_queued_one(out, m.number(), u, k)?;
-        next = u.next(Size::SMALL);
-        n += 1;
-    }
-    end(out, n)
+    first: Option<MsgNo>,
+) -> io::Result<()> {
+    let all = queue(l, first).map(|(m, u)| Shown {
+        message: m.number(),
+        prio: u.prio,
+        order: None,
+        from: u.sptr,
+        to: if u.rptr == k.number() { 0 } else { u.rptr },
+    });
+    show_list(out, "queue", all)
 }

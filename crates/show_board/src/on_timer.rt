@@ -1,159 +1,93 @@
-// The messages on the timer, by number, and with the timer buffer when each is due; and a buffer as it is stored. Where there is
-// no buffer, it is empty here.
-ghost use Rattle.std.specs.Prelude.{◌≤◌, length};
-ghost use Rattle.board.specs.Numbers.{small};
-ghost use Rattle.board.specs.Board.{total};
-
-use crate::show_name;
-use board::numbers::Size;
-use board::priority::{fifo, number};
+// The messages on the timer, by number, and with the timer buffer when each is due; and a buffer as it is stored.
+use crate::words::Name;
+use board::priority::number;
 use lent::by_word::{is_timed, message_meant, task_meant};
+use lent::bytes::Lent;
 use std::io;
 use std::io::Write;
-use telling::print::{decimal, decimal_in, last_digit, text};
-use telling::timer_buffer::{entry_of, ticks_left};
+use telling::order::order;
+use telling::timer_buffer::{Timer, entry_of, ticks_left};
 use telling::totals::blocks;
 use timer::bytes::{entry_at, now_at};
-use timer::entry::Entry;
 
-fn show_message<W: Write>(out: &mut W, l: &[u8], m: u16) -> io::Result<()>
-    requires { total small ≤ length l.now }
-{
-    let u = message_meant(Size::SMALL, l, m);
-    let back = task_meant(Size::SMALL, l, u.sptr);
-    decimal_in(out, m as u64, 9)?;
-    decimal_in(out, number(u.prio) as u64, 10)?;
-    if fifo(u.prio) {
-        text(out, b"  FIFO")?;
-    } else {
-        text(out, b"  LIFO")?;
-    }
-    decimal_in(out, u.rptr as u64, 6)?;
-    decimal_in(out, u.sptr as u64, 6)?;
-    show_name(out, back.name)
-}
-
-// A tick is 12.8 ms: so many seconds, to the last digit.
-fn show_seconds<W: Write>(out: &mut W, ticks: u32) -> io::Result<()> {
-    let n = ticks as u64 * 128;
-    decimal_in(out, n / 10000, 6)?;
-    text(
+fn show_message<W: Write>(out: &mut W, l: Lent<'_>, m: u16) -> io::Result<()> {
+    let u = message_meant(l, m);
+    let back = task_meant(l, u.sptr);
+    write!(
         out,
-        &[
-            b'.',
-            last_digit(n / 1000),
-            last_digit(n / 100),
-            last_digit(n / 10),
-            last_digit(n),
-        ],
-    )?;
-    Ok(())
+        "{m:9}{:10}  {}{:6}{:6}{}",
+        number(u.prio),
+        order(u.prio),
+        u.rptr,
+        u.sptr,
+        Name(back.name),
+    )
 }
 
-// When message m is due, by its entry.
-fn show_due<W: Write>(out: &mut W, s: &[u8], m: u16) -> io::Result<()>
-    requires { 50 ≤ length s.now }
-{
-    let i = entry_of(s, m);
+// When message m is due, by its entry: in a buffer for this board each that is on the timer has one. A tick is 12.8 ms: so many
+// seconds, to the last digit.
+fn show_due<W: Write>(out: &mut W, s: &Timer, m: u16) -> io::Result<()> {
+    let Some(i) = entry_of(s, m) else {
+        return Ok(());
+    };
     let e = entry_at(s, i);
     let left = ticks_left(now_at(s), e.due);
-    decimal_in(out, i as u64, 7)?;
-    decimal_in(out, e.due as u64, 7)?;
-    decimal_in(out, left as u64, 10)?;
-    show_seconds(out, left)
+    let parts = u64::from(left) * 128;
+    write!(
+        out,
+        "{i:7}{:7}{left:10}{:6}.{:04}",
+        e.due,
+        parts / 10000,
+        parts % 10000,
+    )
 }
 
-fn show_line<W: Write>(out: &mut W, l: &[u8], s: &[u8], m: u16) -> io::Result<()>
-    requires { total small ≤ length l.now }
-{
+fn show_line<W: Write>(out: &mut W, l: Lent<'_>, s: Option<&Timer>, m: u16) -> io::Result<()> {
     show_message(out, l, m)?;
-    if 50 <= s.len() {
+    if let Some(s) = s {
         show_due(out, s, m)?;
     }
-    text(out, b"\n")?;
-    Ok(())
+    writeln!(out)
 }
 
-fn show_head<W: Write>(out: &mut W, s: &[u8]) -> io::Result<()> {
-    text(out, b"  message  priority        RPTR  SPTR  returns to")?;
-    if 50 <= s.len() {
-        text(out, b"   entry    due  in ticks    seconds")?;
+fn show_messages<W: Write>(out: &mut W, l: Lent<'_>, s: Option<&Timer>) -> io::Result<()> {
+    write!(out, "  message  priority        RPTR  SPTR  returns to")?;
+    if s.is_some() {
+        write!(out, "   entry    due  in ticks    seconds")?;
     }
-    text(out, b"\n")?;
-    Ok(())
-}
-
-fn show_messages<W: Write>(out: &mut W, l: &[u8], s: &[u8]) -> io::Result<()>
-    requires { total small ≤ length l.now }
-{
-    show_head(out, s)?;
-    let mut m: u16 = 0;
-    while m < 128 {
-        m += 1;
-        if is_timed(Size::SMALL, l, m) {
-            show_line(out, l, s, m)?;
-        }
+    writeln!(out)?;
+    for m in (1..=l.size.messages).filter(|m| is_timed(l, *m)) {
+        show_line(out, l, s, m)?;
     }
     Ok(())
 }
 
-// In a buffer for this board as many entries are used as messages are on the timer.
-fn show_now<W: Write>(out: &mut W, s: &[u8], n: u16) -> io::Result<()> {
-    text(out, b"\ntimer")?;
-    if 50 <= s.len() {
-        text(out, b": now ")?;
-        decimal(out, now_at(s) as u64)?;
-        text(out, b"; ")?;
-        decimal(out, n as u64)?;
-        text(out, b" of 16 entries used")?;
-    }
-    text(out, b"\n")?;
-    Ok(())
-}
-
-pub(crate) fn show_timer<W: Write>(out: &mut W, l: &[u8], s: &[u8]) -> io::Result<()>
-    requires { total small ≤ length l.now }
-{
+// Where there is a buffer, as many of its entries are used as messages are on the timer.
+pub(crate) fn show_timer<W: Write>(out: &mut W, l: Lent<'_>, s: Option<&Timer>) -> io::Result<()> {
     let n = blocks(l, 128, 128);
-    if n == 0 && s.len() == 0 {
+    if n == 0 && s.is_none() {
         return Ok(());
     }
-    show_now(out, s, n)?;
+    write!(out, "\ntimer")?;
+    if let Some(s) = s {
+        write!(out, ": now {}; {n} of 16 entries used", now_at(s))?;
+    }
+    writeln!(out)?;
     if 0 < n {
         show_messages(out, l, s)?;
     }
     Ok(())
 }
 
-fn show_entry<W: Write>(out: &mut W, i: u16, e: Entry) -> io::Result<()> {
-    if e.message == 0 && e.due == 0 {
-        return Ok(());
-    }
-    decimal_in(out, i as u64, 7)?;
-    decimal_in(out, e.message as u64, 9)?;
-    decimal_in(out, e.due as u64, 7)?;
-    text(out, b"\n")?;
-    Ok(())
-}
-
-fn show_entries<W: Write>(out: &mut W, s: &[u8]) -> io::Result<()>
-    requires { 50 ≤ length s.now }
-{
-    let mut i: u16 = 0;
-    while i < 16 {
-        i += 1;
-        show_entry(out, i, entry_at(s, i))?;
-    }
-    Ok(())
-}
-
 // A buffer that is refused: every entry that is not zero.
-pub(crate) fn show_stored<W: Write>(out: &mut W, s: &[u8]) -> io::Result<()> {
-    if s.len() != 50 {
-        return Ok(());
+pub(crate) fn show_stored<W: Write>(out: &mut W, s: &Timer) -> io::Result<()> {
+    writeln!(out, "\ntimer buffer: now {}", now_at(s))?;
+    writeln!(out, "  entry  message    due")?;
+    for i in 1..=16u16 {
+        let e = entry_at(s, i);
+        if e.message != 0 || e.due != 0 {
+            writeln!(out, "{i:7}{:9}{:7}", e.message, e.due)?;
+        }
     }
-    text(out, b"\ntimer buffer: now ")?;
-    decimal(out, now_at(s) as u64)?;
-    text(out, b"\n  entry  message    due\n")?;
-    show_entries(out, s)
+    Ok(())
 }

@@ -3,31 +3,25 @@ ghost use Rattle.std.specs.Prelude.{◌≡◌};
 ghost use Rattle.station.specs.BothPass.{both_pass};
 
 use crate::{checked_small, sized};
-use board::numbers::{Size, TaskMeant};
+use board::numbers::{Size, TaskNo};
+use lent::bytes::Lent;
 use paper::answer::Refusal;
-use rules::{Checked, Edition};
+use rules::Edition;
 use timer_rules::good_timer;
 
-#[derive(Clone, Copy)]
-pub enum BothPass {
-    Not(Refusal),
-    Runs(TaskMeant),
-}
-
-pub fn both_pass(l: &[u8], s: &[u8]) -> BothPass
+pub fn both_pass(l: &[u8], s: &[u8]) -> Result<Option<TaskNo>, Refusal>
     ensures { result ≡ both_pass l.now s.now }
 {
     if !sized(l) {
-        return BothPass::Not(Refusal::WrongLength);
+        return Err(Refusal::WrongLength);
     }
-    let checked = checked_small(Edition::Today, l);
-    match checked {
-        Checked::Broken(r) => BothPass::Not(Refusal::RuleBroken(r)),
-        Checked::Passes(c) => {
-            if good_timer(Size::SMALL, l, s) {
-                return BothPass::Runs(c);
-            }
-            BothPass::Not(Refusal::BadTimer)
-        }
+    let c = checked_small(Edition::Today, l)?;
+    let board = Lent {
+        size: Size::SMALL,
+        bytes: l,
+    };
+    if !good_timer(board, s) {
+        return Err(Refusal::BadTimer);
     }
+    Ok(c)
 }

@@ -2,22 +2,20 @@
 use mathlib.Core.Path.{◌≡◌, sym, ap, ◌∙◌}
 use mathlib.Core.List.{List}
 use Prim.Native.Nat.{ℕ}
+use Rattle.std.specs.Prelude.{Option, None, Some}
 use Rattle.board.specs.Numbers.{small}
-use Rattle.paper.specs.declared.answer.Answer.{Answer}
 use Rattle.paper.specs.declared.call.Call.{Call}
-use Rattle.paper.specs.Answers.{handed}
+use Rattle.paper.specs.Answers.{handed, Answer}
 use Rattle.paper.specs.Outcomes.{Ends, effect}
-use Rattle.for_c.specs.declared.asked.Asked.{Asked}
-use Rattle.for_c.specs.declared.asked.Asked.TheVariants.{Made, NoCall}
 use Rattle.for_c.specs.Packed.{packed}
 use Rattle.station_c.specs.Called.{word_for, left_for}
 
 -- x is the call that was asked for
-module _ (l : List ℕ) {x asked : Asked} (ex : x ≡ asked) where
-  pub no_call_told : x ≡ NoCall → (255 ≡ word_for l asked) × (l ≡ left_for l asked)
+module _ (l : List ℕ) {x asked : Option Call} (ex : x ≡ asked) where
+  pub no_call_told : x ≡ None → (255 ≡ word_for l asked) × (l ≡ left_for l asked)
   no_call_told e = let f = sym e ∙ ex in (ap (word_for l) f, ap (left_for l) f)
 
-  pub made_told : {call : Call} {a : Answer} {d : List ℕ} {w : ℕ} → x ≡ Made call → w ≡ packed (handed a)
+  pub made_told : {call : Call} {a : Answer} {d : List ℕ} {w : ℕ} → x ≡ Some call → w ≡ packed (handed a)
       → Ends a d (effect small l call) → (w ≡ word_for l asked) × (d ≡ left_for l asked)
   made_told e p m =
       let f = sym e ∙ ex in

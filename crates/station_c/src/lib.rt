@@ -12,7 +12,7 @@ ghost use Rattle.for_c.specs.Packed.{packed};
 ghost use Rattle.for_c.specs.Asked.{asked_of};
 ghost use Rattle.station_c.specs.Called.{word_for, left_for, TellsTimed};
 
-use for_c::asked::{Asked, call_of_kind};
+use for_c::asked::call_of_kind;
 use for_c::pack::pack;
 
 #[unsafe(no_mangle)]
@@ -49,7 +49,7 @@ pub extern "C" fn station_call(
 ) -> u64
     ensures { (result ≡ word_for board.old (asked_of kind a b c stat prio)) × (board.new ≡ left_for board.old (asked_of kind a b c stat prio)) }
 {
-    let Asked::Made(call) = call_of_kind(kind, a, b, c, stat, prio) else {
+    let Some(call) = call_of_kind(kind, a, b, c, stat, prio) else {
         return 255;
     };
     pack(station::step(board, call))

@@ -8,11 +8,12 @@ use mathlib.Core.List.{List, [], ◌∷◌}
 use Prim.Native.Nat.{ℕ}
 use lib.Dec.{eqb}
 use lib.ListN.{length}
+use Rattle.std.specs.Prelude.{Option}
 use Rattle.links.specs.Queue.{first_with}
 use Rattle.links.specs.Chain.{In, Out}
 use Rattle.links.proofs.Members.{not_in_out}
 use Rattle.board.specs.declared.numbers.Size.{Size}
-use Rattle.board.specs.declared.numbers.TaskMeant.{TaskMeant}
+use Rattle.board.specs.declared.numbers.TaskNo.{TaskNo}
 use Rattle.board.specs.declared.records.Message.{Message}
 use Rattle.board.specs.declared.places.Place.TheVariants.{Free}
 use Rattle.board.specs.Numbers.{Numbered, number_of_task}
@@ -127,7 +128,7 @@ module _ (z : Size) (l : List ℕ) (e : length l ≡ total z) (a : Sizes z) (q :
 
   -- ---- every call
   -- without a value and without tasks linked anew
-  does : (call : Call) → (body z b c call).value ≡ 0 → relinks (touched b c call).move ≡ false → {k : TaskMeant} {m : List ℕ}
+  does : (call : Call) → (body z b c call).value ≡ 0 → relinks (touched b c call).move ≡ false → {k : Option TaskNo} {m : List ℕ}
       → ((j : ℕ) → j ≢ number_of_task k → j ≢ c → Out j (touched b c call).tasks) → Comes z m (body z b c call).board
       → Body z b c (record { value = 0; stirred = k; after = m }) (body z b c call)
   does call v r {k = k} o h = record { value = sym v; bytes = h; stirs = stirs_by z b c call (number_of_task k) r o }

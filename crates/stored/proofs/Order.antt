@@ -8,13 +8,13 @@ use Prim.Native.Nat.{ℕ, ◌≤◌, ◌<◌}
 use native.Mathlib.Omega.{arith}
 use lib.Dec.{eqb}
 use lib.ListN.{length}
+use Rattle.std.specs.Prelude.{Some, None}
 use Rattle.links.specs.Queue.{walk, goes_before, insert, without}
 use Rattle.links.specs.Chain.{In, Out, All, Chain}
 use Rattle.links.specs.Seek.{Spot, seek}
 use Rattle.links.proofs.Members.{out_not_in, all_of}
 use Rattle.links.proofs.Chains.{chain_frame, walk-length}
 use Rattle.board.specs.declared.numbers.Size.{Size}
-use Rattle.board.specs.declared.numbers.TaskMeant.TheVariants as meant
 use Rattle.board.specs.declared.records.Task.{Task}
 use Rattle.board.specs.Numbers.{outside, on_board, task_meant, Numbered}
 use Rattle.board.specs.Status.{number}
@@ -39,7 +39,7 @@ comes_behind : (z : Size) (l : List ℕ) → length l ≡ total z → (prev x : 
     → Comes z (moves.behind_task z l (task_meant z prev) x) (behind order_store z.tasks (board_of z l) prev x)
 comes_behind z l e prev x h = go (outside z.tasks prev)
   where
-    go : (t : Bool) → Comes z (moves.behind_task z l (cond t meant.NoTask (meant.Task (record { 0 = prev }))) x)
+    go : (t : Bool) → Comes z (moves.behind_task z l (cond t None (Some (record { 0 = prev }))) x)
         (cond t (with_first (board_of z l) x) (link_task (board_of z l) prev x))
     go true = comes_first z l e x h
     go false = comes_task z l e prev _

@@ -8,6 +8,7 @@ use mathlib.Core.List.{List}
 use Prim.Native.Nat.{ℕ, ◌≤◌}
 use lib.Dec.{eqb}
 use lib.ListN.{length}
+use Rattle.std.specs.Prelude.{Some, None}
 use Rattle.links.specs.Queue.{first_of, rest_of, goes_before, insert, without}
 use Rattle.links.specs.Chain.{In, Out, All, Chain}
 use Rattle.links.specs.Seek.{Spot, seek}
@@ -15,7 +16,6 @@ use Rattle.links.proofs.Members.{out_not_in, all_of}
 use Rattle.links.proofs.Chains.{chain_first, chain_frame, chain-walk, walk-length}
 use Rattle.links.proofs.Insertion.{insert_stays}
 use Rattle.board.specs.declared.numbers.Size.{Size}
-use Rattle.board.specs.declared.numbers.MessageMeant.TheVariants as meant
 use Rattle.board.specs.declared.records.Message.{Message}
 use Rattle.board.specs.declared.places.Place.TheVariants.{Free, QueuedAt}
 use Rattle.board.specs.Numbers.{outside, on_board, task_no, message_meant, Numbered}
@@ -45,7 +45,7 @@ comes_behind : (z : Size) (l : List ℕ) → length l ≡ total z → (r prev x 
     → Comes z (moves.behind z l r (message_meant z prev) x) (behind (queue_store r) z.messages (board_of z l) prev x)
 comes_behind z l e r prev x = go (outside z.messages prev)
   where
-    go : (t : Bool) → Comes z (moves.behind z l r (cond t meant.NoMessage (meant.Message (record { 0 = prev }))) x)
+    go : (t : Bool) → Comes z (moves.behind z l r (cond t None (Some (record { 0 = prev }))) x)
         (cond t (with_mptr (board_of z l) r x) (link_message (board_of z l) prev x))
     go true = comes_task z l e r _
     go false = comes_message z l e prev _

@@ -12,12 +12,11 @@ use Prim.Native.Nat.{ℕ, zero, suc, ◌-◌, ◌≤◌, ◌<◌}
 use native.Mathlib.Omega.{arith}
 use lib.Dec.{eqb}
 use borrow.Author.Tests.{eq-eqb, ne_eqb, lt-ltb, le-ltb}
+use Rattle.std.specs.Prelude.{Some, None}
 use Rattle.links.specs.Queue.{goes_before}
 use Rattle.links.specs.Seek.{Spot, seek}
 use Rattle.links.proofs.Seeking.{seek-turn, seek_found, seek_end, seek_out}
 use Rattle.board.specs.declared.numbers.Size.{Size}
-use Rattle.board.specs.declared.numbers.TaskMeant.TheVariants.{Task, NoTask}
-use Rattle.board.specs.declared.numbers.MessageMeant.TheVariants.{Message, NoMessage}
 use Rattle.board.specs.Numbers.{outside, task_meant, message_meant, number_of_task, number_of_message, on_board}
 use Rattle.board.specs.Status.{number}
 use Rattle.board.proofs.Pieces.{outside-zero}
@@ -41,18 +40,18 @@ on_board_lem f last w h = go (outside last w) refl
 within_some : (last w : ℕ) → outside last w ≡ false → w ≢ 0
 within_some last w e d = true≢false (sym (outside-zero last w d) ∙ e)
 
-pub message-kind : (z : Size) → Kind number_of_message (message_meant z) (on_board z.messages) Message (λ m. m.0)
+pub message-kind : (z : Size) → Kind number_of_message (message_meant z) (on_board z.messages) Some (λ m. m.0)
 message-kind z = record {
   known = number_of_message_lem z;
-  again = λ w. on_board_lem (message_meant z) z.messages w (ap (λ (t : Bool). cond t NoMessage (Message (record { 0 = w }))));
+  again = λ w. on_board_lem (message_meant z) z.messages w (ap (λ (t : Bool). cond t None (Some (record { 0 = w }))));
   named = λ m. refl;
   some = λ w m e. within_some z.messages w (message_meant-message z w m e).0;
 }
 
-pub task-kind : (z : Size) → Kind number_of_task (task_meant z) (on_board z.tasks) Task (λ k. k.0)
+pub task-kind : (z : Size) → Kind number_of_task (task_meant z) (on_board z.tasks) Some (λ k. k.0)
 task-kind z = record {
   known = number_of_task_lem z;
-  again = λ w. on_board_lem (task_meant z) z.tasks w (ap (λ (t : Bool). cond t NoTask (Task (record { 0 = w }))));
+  again = λ w. on_board_lem (task_meant z) z.tasks w (ap (λ (t : Bool). cond t None (Some (record { 0 = w }))));
   named = λ k. refl;
   some = λ w k e. within_some z.tasks w (task_meant-task z w k e).0;
 }

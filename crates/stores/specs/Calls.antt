@@ -9,9 +9,9 @@
 --   finish z c d l            that one is written into byte 1, and dispatched, behind the body d
 --   called z l call           the whole call
 -- Assumes nothing.
-use Rattle.std.specs.Prelude.{cond, List, [], ◌∷◌, ℕ, ◌%◌}
+use Rattle.std.specs.Prelude.{cond, List, [], ◌∷◌, ℕ, ◌%◌, Option, Err, Ok}
 use Rattle.board.specs.declared.numbers.Size.{Size}
-use Rattle.board.specs.declared.numbers.TaskMeant.{TaskMeant}
+use Rattle.board.specs.declared.numbers.TaskNo.{TaskNo}
 use Rattle.board.specs.Numbers.{outside, number_of_task, on_board}
 use Rattle.board.specs.Status.{MHBS, has}
 use Rattle.board.specs.Board.{board_of, task, message}
@@ -21,16 +21,14 @@ use Rattle.paper.specs.declared.call.Call.TheVariants.{Install, PostInterrupt, F
 use Rattle.paper.specs.declared.call.Call.TheVariants.{Send, SendAndWait, Resend, ResendAndWait, Forward, ForwardAndWait, Return, ReturnAndWait}
 use Rattle.paper.specs.declared.call.Call.TheVariants.{Receive, ReceiveAndWait, CancelMessage, WaitForInterrupt}
 use Rattle.paper.specs.declared.answer.Refusal.TheVariants.{NothingToDeliver}
-use Rattle.paper.specs.declared.answer.Answer.TheVariants.{Accepted, Refused}
 use Rattle.paper.specs.Rules.{ready, outranks, first_ready}
 use Rattle.paper.specs.Effects.{lowest_free}
 use Rattle.paper.specs.Refusals.{no6, no7, Verdict, own_row, given}
 use Rattle.paper.specs.Outcomes.{Outcome}
-use Rattle.stores.specs.declared.Body.{Body}
-use Rattle.stores.specs.declared.Body.TheVariants.{Done, Stopped}
+use Rattle.paper.specs.Answers.{accepts}
 use Rattle.stores.specs.Changes.{clears}
 use Rattle.stores.specs.Effects.{send, pass_on, waits, take_first, cancel_message, install, cancel_task, post, wait_interrupt, claim, release, prepare, find}
-use Rattle.stores.specs.Answers.{Stored, stirs, rests, Reply, reply_by}
+use Rattle.stores.specs.Answers.{Stored, stirs, rests, Reply, reply_by, Body, done}
 
 -- ---- a call's body
 abbrev pub body : Size → List ℕ → ℕ → Call → Stored
@@ -68,27 +66,27 @@ abbrev pub passing : Size → List ℕ → ℕ → ℕ → Reply Body
 passing z l m w = reply_by (pass_verdict z l m w) l (stirs 0 w (pass_on z l m w))
 
 abbrev pub waiting : Size → ℕ → Body → List ℕ → Reply Body
-waiting z c (Done v stirred) l = record { answer = Done 0 stirred; after = waits z l c }
-waiting z c (Stopped q) l = record { answer = Stopped q; after = l }
+waiting z c (Ok d) l = record { answer = done 0 d.stirred; after = waits z l c }
+waiting z c (Err q) l = record { answer = Err q; after = l }
 
 -- ---- dispatch
 abbrev pub deliver : Size → ℕ → List ℕ → ℕ → Outcome
 deliver z v l c = let m = (task (board_of z l) c).mptr in
-    cond (outside z.messages m) (record { answer = Refused NothingToDeliver; after = l })
-    (record { answer = Accepted v c m; after = clears z (take_first z l c) c MHBS })
+    cond (outside z.messages m) (record { answer = Err NothingToDeliver; after = l })
+    (record { answer = accepts v c m; after = clears z (take_first z l c) c MHBS })
 
 abbrev pub dispatch : Size → ℕ → List ℕ → ℕ → Outcome
-dispatch z v l c = cond (has (task (board_of z l) c).stat MHBS) (deliver z v l c) (record { answer = Accepted v c 0; after = l })
+dispatch z v l c = cond (has (task (board_of z l) c).stat MHBS) (deliver z v l c) (record { answer = accepts v c 0; after = l })
 
 -- who ran goes on where it is ready and the one stirred, who alone can have become ready, does not outrank it; else the task queue is looked
 -- through
-abbrev pub runs_then : Size → ℕ → TaskMeant → List ℕ → ℕ
+abbrev pub runs_then : Size → ℕ → Option TaskNo → List ℕ → ℕ
 runs_then z c stirred l = let b = board_of z l in let k = number_of_task stirred in
     cond (ready b c) (cond (outranks b c k) k c) (first_ready z b)
 
 abbrev pub finish : Size → ℕ → Body → List ℕ → Outcome
-finish z c (Done v stirred) l = let k = runs_then z c stirred l in dispatch z v (put_running l (k % 256)) k
-finish z c (Stopped q) l = record { answer = Refused q; after = l }
+finish z c (Ok d) l = let k = runs_then z c d.stirred l in dispatch z d.value (put_running l (k % 256)) k
+finish z c (Err q) l = record { answer = Err q; after = l }
 
 abbrev pub called : Size → List ℕ → Call → Outcome
 called z l call = finish z (board_of z l).running (stepping z l call).answer (stepping z l call).after

@@ -7,14 +7,12 @@
 --   queue_into z l m u r          message m becomes u, bit 0 of PRIO set, and goes into the queue of r; queue_out z l m r it is taken out
 --   order_into z l k t            task k becomes t and goes into the task queue; order_out z l k it is taken out
 -- Assumes nothing.
-use Rattle.std.specs.Prelude.{Bool, true, List, ℕ, ◌%◌, eqb}
+use Rattle.std.specs.Prelude.{Bool, true, List, ℕ, ◌%◌, eqb, Option, Some, None}
 use Rattle.links.specs.Queue.{goes_before}
 use Rattle.links.specs.Seek.{Spot, seek}
 use Rattle.board.specs.declared.numbers.Size.{Size}
-use Rattle.board.specs.declared.numbers.TaskMeant.{TaskMeant}
-use Rattle.board.specs.declared.numbers.TaskMeant.TheVariants as tasks
-use Rattle.board.specs.declared.numbers.MessageMeant.{MessageMeant}
-use Rattle.board.specs.declared.numbers.MessageMeant.TheVariants as messages
+use Rattle.board.specs.declared.numbers.TaskNo.{TaskNo}
+use Rattle.board.specs.declared.numbers.MsgNo.{MsgNo}
 use Rattle.board.specs.declared.records.Task.{Task}
 use Rattle.board.specs.declared.records.Message.{Message}
 use Rattle.board.specs.Numbers.{task_meant, message_meant, on_board}
@@ -41,9 +39,9 @@ abbrev pub spot_of : Size → List ℕ → ℕ → ℕ → Spot
 spot_of z l r m = let b = board_of z l in
     seek (λ y. eqb y m) (message_behind z b) z.messages 0 (on_board z.messages (task b r).mptr)
 
-abbrev pub behind : Size → List ℕ → ℕ → MessageMeant → ℕ → List ℕ
-behind z l r (messages.Message m) x = link_message z l m.0 x
-behind z l r messages.NoMessage x = with_mptr z l r x
+abbrev pub behind : Size → List ℕ → ℕ → Option MsgNo → ℕ → List ℕ
+behind z l r (Some m) x = link_message z l m.0 x
+behind z l r None x = with_mptr z l r x
 
 abbrev pub queue_into : Size → List ℕ → ℕ → Message → ℕ → List ℕ
 queue_into z l m u r = let at = spot_for z l r (fifo u.prio) (number u.prio) in
@@ -61,9 +59,9 @@ abbrev pub spot_of_task : Size → List ℕ → ℕ → Spot
 spot_of_task z l k = let b = board_of z l in
     seek (λ y. eqb y k) (task_behind z b) z.messages 0 (on_board z.tasks b.first)
 
-abbrev pub behind_task : Size → List ℕ → TaskMeant → ℕ → List ℕ
-behind_task z l (tasks.Task k) x = link_task z l k.0 x
-behind_task z l tasks.NoTask x = put_first l (x % 256)
+abbrev pub behind_task : Size → List ℕ → Option TaskNo → ℕ → List ℕ
+behind_task z l (Some k) x = link_task z l k.0 x
+behind_task z l None x = put_first l (x % 256)
 
 abbrev pub order_into : Size → List ℕ → ℕ → Task → List ℕ
 order_into z l k t = let at = spot_for_task z l (number t.prio) in

@@ -3,7 +3,7 @@ ghost use Rattle.std.specs.Prelude.{◌≡◌, cond, eqb};
 ghost use Rattle.paper.specs.Effects.{own_prio};
 ghost use Rattle.stores.specs.Effects.{addressed_as};
 
-use board::numbers::TaskNo;
+use board::numbers::{Number, TaskNo};
 use board::priority::number;
 use board::records::Message;
 

@@ -5,38 +5,58 @@
 
 pub mod addressed;
 
-ghost use Rattle.std.specs.Prelude.{◌≡◌};
+ghost use Rattle.std.specs.Prelude.{◌≡◌, Some, None};
 ghost use Rattle.stores.specs.Answers.{with_nobody};
 
-use board::numbers::{MsgNo, TaskMeant, TaskNo};
-use paper::answer::{Answer, Refusal};
+use board::numbers::{MsgNo, TaskNo};
+use paper::answer::{Accepted, Answer, Refusal};
 
 // The running task and a message that it holds.
-#[derive(Clone, Copy)]
-pub enum Held {
-    By { c: TaskNo, m: MsgNo },
-    Not(Refusal),
+#[derive(Clone, Copy, Debug, PartialEq, Eq)]
+pub struct Held {
+    pub c: TaskNo,
+    pub m: MsgNo,
 }
 
 // A call's body was done, with this value; of the tasks other than the one that calls it changed the status of this one at most.
-#[derive(Clone, Copy)]
-pub enum Body {
-    Done { value: u16, stirred: TaskMeant },
-    Stopped(Refusal),
+#[derive(Clone, Copy, Debug, PartialEq, Eq)]
+pub struct Done {
+    pub value: u16,
+    pub stirred: Option<TaskNo>,
 }
 
-impl Body {
-    // The answer where nobody is dispatched.
-    pub fn with_nobody(self) -> Answer
-        ensures { result ≡ with_nobody self }
+impl Done {
+    // Nobody else has changed.
+    pub fn rests(value: u16) -> Done
+        ensures { result ≡ record { value = value; stirred = None } }
     {
-        match self {
-            Body::Done { value, stirred: _ } => Answer::Accepted {
-                value: value,
-                running: 0,
-                delivered: 0,
-            },
-            Body::Stopped(q) => Answer::Refused(q),
+        Done {
+            value,
+            stirred: None,
         }
     }
+
+    // Task k has, at most.
+    pub fn stirs(k: TaskNo) -> Done
+        ensures { result ≡ record { value = 0; stirred = Some k } }
+    {
+        Done {
+            value: 0,
+            stirred: Some(k),
+        }
+    }
+}
+
+pub type Body = Result<Done, Refusal>;
+
+// The answer where nobody is dispatched.
+pub fn with_nobody(body: Body) -> Answer
+    ensures { result ≡ with_nobody body }
+{
+    let done = body?;
+    Ok(Accepted {
+        value: done.value,
+        running: 0,
+        delivered: 0,
+    })
 }

@@ -2,104 +2,78 @@
 // row in the paper's order, and only then writes.
 #![tactic(auto)]
 
-ghost use Rattle.std.specs.Prelude.{◌≡◌, ◌≤◌, length};
+ghost use Rattle.std.specs.Prelude.{◌≡◌};
+ghost use Rattle.board.specs.Board.{task, board_of};
 ghost use Rattle.board.specs.Numbers.{message_meant};
-ghost use Rattle.board.specs.Board.{board_of, task, total};
+ghost use Rattle.lent.specs.Lent.{Becomes};
 ghost use Rattle.paper.specs.declared.call.Call.TheVariants as calls;
-ghost use Rattle.stores.specs.Effects.{take_first, emptied, cancel_message};
-ghost use Rattle.stores.specs.Answers.{Runs, Makes};
+ghost use Rattle.stores.specs.Answers.{Runner, Made};
 ghost use Rattle.stores.specs.Calls.{stepping};
+ghost use Rattle.stores.specs.Effects.{take_first, emptied, cancel_message};
 
-use board::numbers::{MessageMeant, MsgNo, Size, TaskMeant, TaskNo};
+use board::numbers::{MsgNo, Number, TaskNo};
 use board::status::Status;
 use changes::{clear_bit, hold, set_bit, set_mptr};
 use inner::refusals::present_task;
-use lent::bytes::{message_at, next_message, queued_at, task_at};
+use lent::bytes::LentMut;
 use message_queue::out_of_queue;
 use paper::answer::Refusal;
-use stores::Body;
+use stores::{Body, Done};
 
 // Task c takes the first message of its queue, if there is one.
-pub fn take_first(z: Size, l: &mut [u8], c: TaskNo) -> MessageMeant
-    requires { total z ≤ length l.old }
-    ensures { (result ≡ message_meant z (task (board_of z l.old) c.0).mptr) × (l.new ≡ take_first z l.old c.0) }
+pub fn take_first(l: &mut LentMut<'_>, c: TaskNo) -> Option<MsgNo>
+    ensures first { result ≡ message_meant l.old.size (task (board_of l.old.size l.old.bytes.now) c.0).mptr }
+    ensures taken { Becomes l.old l.new (take_first l.old.size l.old.bytes.now c.0) }
 {
-    let t = task_at(z, l, c);
-    let first = t.first(z);
-    let MessageMeant::Message(m) = first else {
-        return first;
-    };
-    let next = next_message(z, l, m);
-    set_mptr(z, l, c, next);
-    hold(z, l, c, m);
-    first
+    let m = l.read().task(c).first(l.size)?;
+    let next = l.read().next_message(m);
+    set_mptr(l, c, next);
+    hold(l, c, m);
+    Some(m)
 }
 
-pub fn receive(z: Size, l: &mut [u8], c: TaskMeant) -> Body
-    requires { Runs z l.old c }
-    ensures { Makes result l.new (stepping z l.old calls.Receive) }
+pub fn receive(l: &mut LentMut<'_>, c: Option<TaskNo>) -> Body
+    requires { Runner l.old.size l.old.bytes.now c }
+    ensures { Made result l.old l.new (stepping l.old.size l.old.bytes.now calls.Receive) }
 {
-    let TaskMeant::Task(k) = c else {
-        return Body::Stopped(Refusal::NobodyRuns);
-    };
-    let first = take_first(z, l, k);
-    Body::Done {
-        value: first.number(),
-        stirred: TaskMeant::NoTask,
-    }
+    let c = c.ok_or(Refusal::NobodyRuns)?;
+    let first = take_first(l, c);
+    Ok(Done::rests(first.number()))
 }
 
 // A task that is due a message and has none queued waits again.
-fn wait_again(z: Size, l: &mut [u8], r: TaskNo)
-    requires { total z ≤ length l.old }
-    ensures { l.new ≡ emptied z l.old r.0 }
+fn wait_again(l: &mut LentMut<'_>, r: TaskNo)
+    ensures { Becomes l.old l.new (emptied l.old.size l.old.bytes.now r.0) }
 {
-    let t = task_at(z, l, r);
-    let s = t.stat;
-    if t.mptr != 0 {
-        return;
-    }
-    if s.has(Status::MHBS) {
-        clear_bit(z, l, r, Status::MHBS);
-        set_bit(z, l, r, Status::WAIT);
+    let t = l.read().task(r);
+    if t.mptr == 0 && t.stat.has(Status::MHBS) {
+        clear_bit(l, r, Status::MHBS);
+        set_bit(l, r, Status::WAIT);
     }
 }
 
 // Task c takes message m back from the queue of r.
-fn take_back(z: Size, l: &mut [u8], c: TaskNo, m: MsgNo, r: TaskNo)
-    requires { total z ≤ length l.old }
-    ensures { l.new ≡ cancel_message z l.old c.0 m.0 r.0 }
+fn take_back(l: &mut LentMut<'_>, c: TaskNo, m: MsgNo, r: TaskNo)
+    ensures { Becomes l.old l.new (cancel_message l.old.size l.old.bytes.now c.0 m.0 r.0) }
 {
-    out_of_queue(z, l, m, r);
-    hold(z, l, c, m);
-    wait_again(z, l, r);
+    out_of_queue(l, m, r);
+    hold(l, c, m);
+    wait_again(l, r);
 }
 
-pub fn cancel_message(z: Size, l: &mut [u8], c: TaskMeant, m: u16, r: u16) -> Body
-    requires { Runs z l.old c }
-    ensures { Makes result l.new (stepping z l.old (calls.CancelMessage m r)) }
+pub fn cancel_message(l: &mut LentMut<'_>, c: Option<TaskNo>, m: u16, r: u16) -> Body
+    requires { Runner l.old.size l.old.bytes.now c }
+    ensures { Made result l.old l.new (stepping l.old.size l.old.bytes.now (calls.CancelMessage m r)) }
 {
-    let TaskMeant::Task(k) = c else {
-        return Body::Stopped(Refusal::NobodyRuns);
-    };
-    let meant = MsgNo::meant(z, m);
-    let MessageMeant::Message(one) = meant else {
-        return Body::Stopped(Refusal::NoSuchMessage);
-    };
-    let from = present_task(z, l, r);
-    let TaskMeant::Task(t) = from else {
-        return Body::Stopped(Refusal::NoSuchTask);
-    };
-    if !queued_at(z, l, t, one) {
-        return Body::Stopped(Refusal::NotQueued);
+    let c = c.ok_or(Refusal::NobodyRuns)?;
+    let m = MsgNo::meant(l.size, m).ok_or(Refusal::NoSuchMessage)?;
+    let r = present_task(l.read(), r).ok_or(Refusal::NoSuchTask)?;
+    if !l.read().queued_at(r, m) {
+        return Err(Refusal::NotQueued);
     }
-    let u = message_at(z, l, one);
-    if u.sptr != k.number() {
-        return Body::Stopped(Refusal::NotItsSender);
+    if l.read().message(m).sptr != c.number() {
+        return Err(Refusal::NotItsSender);
     }
-    take_back(z, l, k, one, t);
-    Body::Done {
-        value: 0,
-        stirred: TaskMeant::Task(t),
-    }
+    take_back(l, c, m, r);
+    Ok(Done::stirs(r))
 }

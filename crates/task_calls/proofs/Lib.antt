@@ -1,5 +1,3 @@
+mod Searches
 mod Naming
-mod Holding
-mod Awaiting
-mod Installing
 mod Cancelling

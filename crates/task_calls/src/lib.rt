@@ -2,180 +2,117 @@
 // then writes.
 #![tactic(auto)]
 
-ghost use Rattle.std.specs.Prelude.{◌≡◌, ◌≤◌, length};
+ghost use Rattle.std.specs.Prelude.{◌≡◌};
 ghost use Rattle.board.specs.Numbers.{number_of_task};
-ghost use Rattle.board.specs.Board.{board_of, total};
+ghost use Rattle.lent.specs.Lent.{board};
 ghost use Rattle.paper.specs.declared.call.Call.TheVariants as calls;
-ghost use Rattle.paper.specs.Refusals.{holds_one, is_awaited, no9};
+ghost use Rattle.paper.specs.Refusals.{holds_one, is_awaited, no10, no9};
 ghost use Rattle.stores.specs.Effects.{find};
-ghost use Rattle.stores.specs.Answers.{Runs, Makes};
+ghost use Rattle.stores.specs.Answers.{Runner, Made, Makes};
 ghost use Rattle.stores.specs.Calls.{stepping};
 
-use board::numbers::{Size, TaskMeant, TaskNo};
+use board::numbers::{Number, TaskNo};
 use board::records::Task;
 use board::status::Status;
 use inner::refusals::present_task;
-use lent::by_word::{message_meant, place_meant};
-use lent::bytes::{first_task, put_task, task_at};
+use lent::by_word::{is_timed, message_meant, place_meant};
+use lent::bytes::{Lent, LentMut};
 use paper::answer::Refusal;
 use record_rules::tasks::task_prio;
-use stores::Body;
+use stores::{Body, Done};
 use task_queue::{into_order, out_of_order};
 
 // A status that a task can't be installed with: TCBB clear, or a flag set that only calls set.
 fn bad_status(s: Status) -> bool
     ensures { result ≡ (no9 s.0).applies }
 {
-    if !s.has(Status::TCBB) {
-        return true;
-    }
-    if s.has(Status::WAIT) {
-        return true;
-    }
-    if s.has(Status::IWAT) {
-        return true;
-    }
-    if s.has(Status::BIT5) {
-        return true;
-    }
-    if s.has(Status::INTQ) {
-        return true;
-    }
-    s.has(Status::MHBS)
+    !s.has(Status::TCBB)
+        || s.has(Status::WAIT)
+        || s.has(Status::IWAT)
+        || s.has(Status::BIT5)
+        || s.has(Status::INTQ)
+        || s.has(Status::MHBS)
 }
 
-pub fn install(z: Size, l: &mut [u8], k: u16, stat: u8, prio: u8, sptr: u16, name: u16) -> Body
-    requires { total z ≤ length l.old }
-    ensures { Makes result l.new (stepping z l.old (calls.Install k stat prio sptr name)) }
+pub fn install(l: &mut LentMut<'_>, k: u16, stat: u8, prio: u8, sptr: u16, name: u16) -> Body
+    ensures { Made result l.old l.new (stepping l.old.size l.old.bytes.now (calls.Install k stat prio sptr name)) }
 {
     if !task_prio(prio) {
-        return Body::Stopped(Refusal::BadPriority);
+        return Err(Refusal::BadPriority);
     }
-    let meant = TaskNo::meant(z, k);
-    let TaskMeant::Task(n) = meant else {
-        return Body::Stopped(Refusal::NotInstallable);
-    };
-    let old = task_at(z, l, n);
-    if old.present() {
-        return Body::Stopped(Refusal::NotInstallable);
+    let k = TaskNo::meant(l.size, k).ok_or(Refusal::NotInstallable)?;
+    if l.read().task(k).present() {
+        return Err(Refusal::NotInstallable);
     }
-    let s = Status::stored(stat);
-    if bad_status(s) {
-        return Body::Stopped(Refusal::BadStatus);
+    let stat = Status::stored(stat);
+    if bad_status(stat) {
+        return Err(Refusal::BadStatus);
     }
     let t = Task {
-        stat: s,
-        prio: prio,
+        stat,
+        prio,
         link: 0,
         mptr: 0,
-        sptr: sptr,
-        name: name,
+        sptr,
+        name,
     };
-    into_order(z, l, n, t);
-    Body::Done {
-        value: 0,
-        stirred: TaskMeant::Task(n),
-    }
+    into_order(l, k, t);
+    Ok(Done::stirs(k))
 }
 
 // The first task in queue order with that name, if any.
-fn named(z: Size, l: &[u8], name: u16) -> TaskMeant
-    requires { total z ≤ length l.now }
-    ensures { number_of_task result ≡ find z l.now name }
+fn named(l: Lent<'_>, name: u16) -> Option<TaskNo>
+    ensures { number_of_task result ≡ find l.entry.size l.entry.bytes.now name }
 {
-    let mut cur = first_task(z, l);
-    let mut left = z.messages;
-    while 0 < left {
-        let TaskMeant::Task(k) = cur else {
-            return cur;
-        };
-        let t = task_at(z, l, k);
+    let mut cur = l.first_task();
+    for _ in 0..l.size.messages {
+        let t = l.task(cur?);
         if t.name == name {
             return cur;
         }
-        cur = t.next(z);
-        left -= 1;
+        cur = t.next(l.size);
     }
-    TaskMeant::NoTask
+    None
 }
 
-pub fn find_task(z: Size, l: &[u8], name: u16) -> Body
-    requires { total z ≤ length l.now }
-    ensures { Makes result l.now (stepping z l.now (calls.Find name)) }
+pub fn find_task(l: Lent<'_>, name: u16) -> Body
+    ensures { Makes result l.entry.bytes.now (stepping l.entry.size l.entry.bytes.now (calls.Find name)) }
 {
-    let k = named(z, l, name);
-    Body::Done {
-        value: k.number(),
-        stirred: TaskMeant::NoTask,
-    }
+    Ok(Done::rests(named(l, name).number()))
 }
 
 // True if task k holds a message.
-fn holds_one(z: Size, l: &[u8], k: TaskNo) -> bool
-    requires { total z ≤ length l.now }
-    ensures { result ≡ holds_one (board_of z l.now) k.0 }
+fn holds_one(l: Lent<'_>, k: TaskNo) -> bool
+    ensures { result ≡ holds_one (board l.entry) k.0 }
 {
-    let most = z.messages;
-    let mut m: u16 = 0;
-    while m < most {
-        m += 1;
-        let p = place_meant(z, l, m);
-        if p.is_held_by(k) {
-            return true;
-        }
-    }
-    false
+    (1..=l.size.messages).any(|m| place_meant(l, m).is_held_by(k))
 }
 
 // True if task k is SPTR of a message on the timer.
-fn is_awaited(z: Size, l: &[u8], k: TaskNo) -> bool
-    requires { total z ≤ length l.now }
-    ensures { result ≡ is_awaited z (board_of z l.now) k.0 }
+fn is_awaited(l: Lent<'_>, k: TaskNo) -> bool
+    ensures { result ≡ is_awaited l.entry.size (board l.entry) k.0 }
 {
-    let most = z.messages;
-    let mut m: u16 = 0;
-    while m < most {
-        m += 1;
-        let p = place_meant(z, l, m);
-        if p.is_on_timer() {
-            let u = message_meant(z, l, m);
-            if u.sptr == k.number() {
-                return true;
-            }
-        }
-    }
-    false
+    (1..=l.size.messages).any(|m| is_timed(l, m) && message_meant(l, m).sptr == k.number())
 }
 
-pub fn cancel_task(z: Size, l: &mut [u8], c: TaskMeant, k: u16) -> Body
-    requires { Runs z l.old c }
-    ensures { Makes result l.new (stepping z l.old (calls.CancelTask k)) }
+// True if task k can't be cancelled: a message is queued at it, it holds one, it waits for an interrupt, or it is awaited.
+fn is_busy(l: Lent<'_>, k: TaskNo) -> bool
+    ensures { result ≡ (no10 l.entry.size (board l.entry) k.0).applies }
 {
-    let TaskMeant::Task(_) = c else {
-        return Body::Stopped(Refusal::NobodyRuns);
-    };
-    let meant = present_task(z, l, k);
-    let TaskMeant::Task(n) = meant else {
-        return Body::Stopped(Refusal::NoSuchTask);
-    };
-    let t = task_at(z, l, n);
-    if t.mptr != 0 {
-        return Body::Stopped(Refusal::TaskBusy);
+    let t = l.task(k);
+    t.mptr != 0 || holds_one(l, k) || t.stat.has(Status::IWAT) || is_awaited(l, k)
+}
+
+pub fn cancel_task(l: &mut LentMut<'_>, c: Option<TaskNo>, k: u16) -> Body
+    requires { Runner l.old.size l.old.bytes.now c }
+    ensures { Made result l.old l.new (stepping l.old.size l.old.bytes.now (calls.CancelTask k)) }
+{
+    c.ok_or(Refusal::NobodyRuns)?;
+    let k = present_task(l.read(), k).ok_or(Refusal::NoSuchTask)?;
+    if is_busy(l.read(), k) {
+        return Err(Refusal::TaskBusy);
     }
-    if holds_one(z, l, n) {
-        return Body::Stopped(Refusal::TaskBusy);
-    }
-    let s = t.stat;
-    if s.has(Status::IWAT) {
-        return Body::Stopped(Refusal::TaskBusy);
-    }
-    if is_awaited(z, l, n) {
-        return Body::Stopped(Refusal::TaskBusy);
-    }
-    out_of_order(z, l, n);
-    put_task(z, l, n, Task::none());
-    Body::Done {
-        value: 0,
-        stirred: TaskMeant::Task(n),
-    }
+    out_of_order(l, k);
+    l.put_task(k, Task::none());
+    Ok(Done::stirs(k))
 }

@@ -1,6 +1,6 @@
 // A call in words on one line: its name, then its arguments. Numbers of tasks and messages are decimal; STAT and PRIO, and SPTR
 // and NAME of a task, are as the paper writes them. Each function answers how many columns it took.
-ghost use Rattle.std.specs.Prelude.{◌+◌, ◌≤◌, length, IfOk};
+ghost use Rattle.std.specs.Prelude.{◌≡◌, ◌+◌, ◌≤◌, length, IfOk};
 
 use crate::print::{decimal, hex_byte, hex_word, text};
 use paper::call::Call;
@@ -37,11 +37,10 @@ fn tell_two<W: Write>(
 }
 
 // The wait forms of a call end so.
-fn tell_wait<W: Write>(out: &mut W, taken: usize) -> io::Result<usize>
-    requires { taken ≤ 29 }
-    ensures { IfOk result (λ n. n ≤ 38) }
+fn tell_wait<W: Write>(out: &mut W) -> io::Result<usize>
+    ensures { IfOk result (λ n. n ≡ 9) }
 {
-    Ok(taken + text(out, b" and wait")?)
+    text(out, b" and wait")
 }
 
 fn tell_fields<W: Write>(out: &mut W, stat: u8, prio: u8) -> io::Result<usize>
@@ -105,25 +104,15 @@ pub fn tell_call<W: Write>(out: &mut W, call: Call) -> io::Result<usize>
         } => tell_prepare(out, m, stat, prio, sptr),
         Call::Release { m } => tell_one(out, b"release ", m),
         Call::Send { m, r } => tell_two(out, b"send ", m, b" to ", r),
-        Call::SendAndWait { m, r } => {
-            let taken = tell_two(out, b"send ", m, b" to ", r)?;
-            tell_wait(out, taken)
-        }
+        Call::SendAndWait { m, r } => Ok(tell_two(out, b"send ", m, b" to ", r)? + tell_wait(out)?),
         Call::Resend { m } => tell_one(out, b"resend ", m),
-        Call::ResendAndWait { m } => {
-            let taken = tell_one(out, b"resend ", m)?;
-            tell_wait(out, taken)
-        }
+        Call::ResendAndWait { m } => Ok(tell_one(out, b"resend ", m)? + tell_wait(out)?),
         Call::Forward { m, r } => tell_two(out, b"forward ", m, b" to ", r),
-        Call::ForwardAndWait { m, r } => {
-            let taken = tell_two(out, b"forward ", m, b" to ", r)?;
-            tell_wait(out, taken)
-        }
+        Call::ForwardAndWait { m, r } => Ok(
+            tell_two(out, b"forward ", m, b" to ", r)? + tell_wait(out)?,
+        ),
         Call::Return { m } => tell_one(out, b"return ", m),
-        Call::ReturnAndWait { m } => {
-            let taken = tell_one(out, b"return ", m)?;
-            tell_wait(out, taken)
-        }
+        Call::ReturnAndWait { m } => Ok(tell_one(out, b"return ", m)? + tell_wait(out)?),
         Call::Receive => text(out, b"receive"),
         Call::ReceiveAndWait => text(out, b"receive and wait"),
         Call::CancelMessage { m, r } => tell_two(out, b"cancel message ", m, b" at ", r),

@@ -8,6 +8,7 @@ use std::io::Read;
 pub fn read_full<R: Read>(input: &mut R, space: &mut [u8]) -> io::Result<usize>
     ensures { ReadsAtMost result space.new }
 {
+    // a `while` stays: how far a read comes is the input's, and std counts what comes short only where it has a heap
     let mut at = 0;
     while at < space.len() {
         let n = input.read(&mut space[at..])?;

@@ -17,14 +17,13 @@ pub fn text<W: Write>(out: &mut W, t: &[u8]) -> io::Result<usize>
 pub fn pad<W: Write>(out: &mut W, taken: usize, width: usize) -> io::Result<usize>
     ensures { IfOk result (λ n. n ≡ taken + (width - taken)) }
 {
-    let mut at = taken;
-    while at < width {
+    for _ in taken..width {
         text(out, b" ")?;
-        at += 1;
     }
-    Ok(at)
+    Ok(taken.max(width))
 }
 
+// `write!` does not say how many digits it writes, which the columns need: so the digits are made first.
 pub fn decimal<W: Write>(out: &mut W, n: u64) -> io::Result<usize>
     ensures { IfOk result (λ k. (IsDigitCount 10 1 n k) × (k ≤ 20)) }
 {
@@ -45,15 +44,6 @@ pub fn decimal_in<W: Write>(out: &mut W, n: u64, width: usize) -> io::Result<usi
     Ok(all)
 }
 
-// The last hexadecimal digit of a word.
-fn hex_digit(w: u16) -> u8 {
-    let d = w % 16;
-    if d < 10 {
-        return (48 + d) as u8;
-    }
-    (55 + d) as u8
-}
-
 // A number below a million, with a comma before its last three digits.
 pub fn thousands<W: Write>(out: &mut W, n: u64) -> io::Result<usize>
     ensures { IfOk result (λ n. n ≤ 24) }
@@ -61,13 +51,9 @@ pub fn thousands<W: Write>(out: &mut W, n: u64) -> io::Result<usize>
     if n < 1000 {
         return decimal(out, n);
     }
-    Ok(
-        decimal(out, n / 1000)?
-            + text(
-                out,
-                &[b',', last_digit(n / 100), last_digit(n / 10), last_digit(n)],
-            )?,
-    )
+    let k = decimal(out, n / 1000)?;
+    write!(out, ",{:03}", n % 1000)?;
+    Ok(k + 4)
 }
 
 pub fn last_digit(n: u64) -> u8
@@ -80,35 +66,24 @@ pub fn last_digit(n: u64) -> u8
 pub fn hex_byte<W: Write>(out: &mut W, b: u8) -> io::Result<usize>
     ensures { IfOk result (λ n. n ≡ 3) }
 {
-    let w = b as u16;
-    text(out, &[hex_digit(w / 16), hex_digit(w), b'H'])
+    write!(out, "{b:02X}H")?;
+    Ok(3)
 }
 
 // A word likewise.
 pub fn hex_word<W: Write>(out: &mut W, w: u16) -> io::Result<usize>
     ensures { IfOk result (λ n. n ≡ 5) }
 {
-    text(
-        out,
-        &[
-            hex_digit(w / 4096),
-            hex_digit(w / 256),
-            hex_digit(w / 16),
-            hex_digit(w),
-            b'H',
-        ],
-    )
+    write!(out, "{w:04X}H")?;
+    Ok(5)
 }
 
 // A byte as a character that can be printed: a dot stands for one that cannot.
 pub fn shown(c: u8) -> u8
     ensures { (31 < result) × (result < 127) }
 {
-    if c < 32 {
-        return b'.';
+    match c {
+        b' '..=b'~' => c,
+        _ => b'.',
     }
-    if 126 < c {
-        return b'.';
-    }
-    c
 }

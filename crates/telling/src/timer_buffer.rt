@@ -1,22 +1,24 @@
 // A timer buffer beside a board that passes: whether it is one for that board, and in words why not; and when its messages are
 // due. A program is handed it on descriptor 3, where the board is on standard input.
-ghost use Rattle.std.specs.Prelude.{◌≡◌, ◌+◌, ◌<◌, ◌≤◌, true, length, IfOk};
+ghost use Rattle.std.specs.Prelude.{◌≡◌, ◌+◌, ◌<◌, ◌≤◌, true, length, IfOk, IfSome};
 ghost use Rattle.io.specs.Counts.{IsPrefixLen};
-ghost use Rattle.board.specs.Numbers.{small};
-ghost use Rattle.board.specs.Board.{board_of, total};
+ghost use Rattle.lent.specs.Lent.{board};
 ghost use Rattle.timing.specs.Timing.{good_timer, wrapped};
 
 use crate::finding::tell_bytes;
 use crate::input::read_full;
-use crate::print::{decimal, text};
 use crate::read_descriptor;
-use board::numbers::Size;
 use lent::by_word::is_timed;
+use lent::bytes::Lent;
 use std::io::{ErrorKind, Write};
 use std::rt::Files;
 use std::{fs, io};
 use timer::bytes::entry_at;
+use timer::entry::Entry;
 use timer_rules::good_timer;
+
+// The bytes of a timer buffer.
+pub type Timer = [u8; 50];
 
 const TIMER_FILENO: i32 = 3;
 
@@ -27,18 +29,11 @@ const TOLD_OF_TIMER: &str = "/proc/self/fdinfo/3";
 
 // The second line of what is told has the flags in octal. Their last digit is 1 where the descriptor is open for writing alone.
 fn is_for_reading(told: &[u8]) -> bool {
-    let mut in_second = false;
-    let mut last = b' ';
-    for b in told {
-        if *b == b'\n' {
-            if in_second {
-                return last != b'1';
-            }
-            in_second = true;
-        }
-        last = *b;
-    }
-    false
+    let mut lines = told.split(|b| *b == b'\n').skip(1);
+    let Some(flags) = lines.next() else {
+        return false;
+    };
+    lines.next().is_some() && flags.last() != Some(&b'1')
 }
 
 // Descriptor 3 is open, and for reading.
@@ -49,12 +44,8 @@ fn is_open<R: Files>(rt: &R) -> io::Result<bool> {
             let n = read_full(&mut told, &mut space)?;
             Ok(is_for_reading(&space[..n]))
         }
-        Err(e) => {
-            if e.kind() == ErrorKind::NotFound {
-                return Ok(false);
-            }
-            Err(e)
-        }
+        Err(e) if e.kind() == ErrorKind::NotFound => Ok(false),
+        Err(e) => Err(e),
     }
 }
 
@@ -79,20 +70,12 @@ pub fn is_lent<R: Files>(rt: &R, n: usize) -> io::Result<bool>
     Ok(!fs::metadata(rt, TIMER)?.is_dir())
 }
 
-// The lowest entry that names message m, 0 if none does.
-pub fn entry_of(s: &[u8], m: u16) -> u16
+// The lowest entry that names message m.
+pub fn entry_of(s: &[u8], m: u16) -> Option<u16>
     requires { 50 ≤ length s.now }
-    ensures { result ≤ 16 }
+    ensures { IfSome result (λ i. (0 < i) × (i ≤ 16)) }
 {
-    let mut i: u16 = 0;
-    while i < 16 {
-        i += 1;
-        let e = entry_at(s, i);
-        if e.message as u16 == m {
-            return i;
-        }
-    }
-    0
+    (1..=16).find(|&i| entry_at(s, i).message as u16 == m)
 }
 
 // In how many ticks the counter, which is at this word, comes to the due word. Where they are equal, it goes all the way round.
@@ -105,66 +88,49 @@ pub fn ticks_left(at: u16, due: u16) -> u32
     65536 - (at - due) as u32
 }
 
-fn tell_message<W: Write>(out: &mut W, i: u16, m: u8, words: &[u8]) -> io::Result<()> {
-    text(out, b"entry ")?;
-    decimal(out, i as u64)?;
-    text(out, b" names message ")?;
-    decimal(out, m as u64)?;
-    text(out, words)?;
-    Ok(())
-}
-
-fn tell_other<W: Write>(out: &mut W, i: u16, m: u8, j: u16) -> io::Result<()> {
-    tell_message(out, i, m, b", which entry ")?;
-    decimal(out, j as u64)?;
-    text(out, b" names too")?;
-    Ok(())
-}
-
-fn tell_due<W: Write>(out: &mut W, i: u16, due: u16) -> io::Result<()> {
-    text(out, b"entry ")?;
-    decimal(out, i as u64)?;
-    text(out, b" is free but not zero: its due word is ")?;
-    decimal(out, due as u64)?;
-    Ok(())
-}
-
 // Entry i, where it is bad. Answers whether it is.
-fn tell_bad_entry<W: Write>(out: &mut W, l: &[u8], s: &[u8], i: u16) -> io::Result<bool>
-    requires { (total small ≤ length l.now) × (50 ≤ length s.now) }
+fn tell_bad_entry<W: Write>(out: &mut W, l: Lent<'_>, s: &[u8], i: u16) -> io::Result<bool>
+    requires { 50 ≤ length s.now }
 {
-    let e = entry_at(s, i);
-    let m = e.message;
+    let Entry { message: m, due } = entry_at(s, i);
     if m == 0 {
-        if e.due == 0 {
+        if due == 0 {
             return Ok(false);
         }
-        tell_due(out, i, e.due)?;
+        write!(out, "entry {i} is free but not zero: its due word is {due}")?;
         return Ok(true);
     }
-    if 128 < m {
-        tell_message(out, i, m, b", which is beyond the board")?;
+    if l.size.messages < m as u16 {
+        write!(
+            out,
+            "entry {i} names message {m}, which is beyond the board"
+        )?;
         return Ok(true);
     }
-    if !is_timed(Size::SMALL, l, m as u16) {
-        tell_message(out, i, m, b", which is not on the timer")?;
+    if !is_timed(l, m as u16) {
+        write!(
+            out,
+            "entry {i} names message {m}, which is not on the timer"
+        )?;
         return Ok(true);
     }
-    let first = entry_of(s, m as u16);
-    if first < i {
-        tell_other(out, i, m, first)?;
+    if let Some(j) = entry_of(s, m as u16)
+        && j < i
+    {
+        write!(
+            out,
+            "entry {i} names message {m}, which entry {j} names too"
+        )?;
         return Ok(true);
     }
     Ok(false)
 }
 
 // The lowest entry that is bad. Answers whether there is one.
-fn tell_entries<W: Write>(out: &mut W, l: &[u8], s: &[u8]) -> io::Result<bool>
-    requires { (total small ≤ length l.now) × (50 ≤ length s.now) }
+fn tell_entries<W: Write>(out: &mut W, l: Lent<'_>, s: &[u8]) -> io::Result<bool>
+    requires { 50 ≤ length s.now }
 {
-    let mut i: u16 = 0;
-    while i < 16 {
-        i += 1;
+    for i in 1..=16 {
         if tell_bad_entry(out, l, s, i)? {
             return Ok(true);
         }
@@ -172,45 +138,23 @@ fn tell_entries<W: Write>(out: &mut W, l: &[u8], s: &[u8]) -> io::Result<bool>
     Ok(false)
 }
 
-// Message m is on the timer, and no entry names it.
-fn is_unnamed(l: &[u8], s: &[u8], m: u16) -> bool
-    requires { (total small ≤ length l.now) × (50 ≤ length s.now) }
+// The lowest message that is on the timer and that no entry names.
+fn tell_messages<W: Write>(out: &mut W, l: Lent<'_>, s: &[u8]) -> io::Result<()>
+    requires { 50 ≤ length s.now }
 {
-    if !is_timed(Size::SMALL, l, m) {
-        return false;
-    }
-    entry_of(s, m) == 0
-}
-
-fn tell_unnamed<W: Write>(out: &mut W, m: u16) -> io::Result<()> {
-    text(out, b"message ")?;
-    decimal(out, m as u64)?;
-    text(out, b" is on the timer and in no entry")?;
-    Ok(())
-}
-
-// The lowest such message.
-fn tell_messages<W: Write>(out: &mut W, l: &[u8], s: &[u8]) -> io::Result<()>
-    requires { (total small ≤ length l.now) × (50 ≤ length s.now) }
-{
-    let mut m: u16 = 0;
-    while m < 128 {
-        m += 1;
-        if is_unnamed(l, s, m) {
-            return tell_unnamed(out, m);
+    for m in 1..=l.size.messages {
+        if is_timed(l, m) && entry_of(s, m).is_none() {
+            return write!(out, "message {m} is on the timer and in no entry");
         }
     }
     Ok(())
 }
 
-fn tell_reason<W: Write>(out: &mut W, l: &[u8], s: &[u8]) -> io::Result<()>
-    requires { total small ≤ length l.now }
-{
+fn tell_reason<W: Write>(out: &mut W, l: Lent<'_>, s: &[u8]) -> io::Result<()> {
     let n = s.len();
     if n != 50 {
         tell_bytes(out, n)?;
-        text(out, b"; a timer buffer is 50")?;
-        return Ok(());
+        return write!(out, "; a timer buffer is 50");
     }
     if !tell_entries(out, l, s)? {
         tell_messages(out, l, s)?;
@@ -219,15 +163,14 @@ fn tell_reason<W: Write>(out: &mut W, l: &[u8], s: &[u8]) -> io::Result<()>
 }
 
 // The buffer is one for this board; if not, its refusal is told in its line.
-pub fn timer_judged<W: Write>(out: &mut W, l: &[u8], s: &[u8]) -> io::Result<bool>
-    requires { total small ≤ length l.now }
-    ensures { IfOk result (λ b. b ≡ good_timer (board_of small l.now) s.now) }
+pub fn timer_judged<W: Write>(out: &mut W, l: Lent<'_>, s: &[u8]) -> io::Result<bool>
+    ensures { IfOk result (λ b. b ≡ good_timer (board l.entry) s.now) }
 {
-    let good = good_timer(Size::SMALL, l, s);
+    let good = good_timer(l, s);
     if !good {
-        text(out, b"refused (18): ")?;
+        write!(out, "refused (18): ")?;
         tell_reason(out, l, s)?;
-        text(out, b"\n")?;
+        writeln!(out)?;
     }
     Ok(good)
 }

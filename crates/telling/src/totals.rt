@@ -1,29 +1,22 @@
 // How many tasks are installed and how many blocks lie where, and the same in words.
-ghost use Rattle.std.specs.Prelude.{◌≡◌, ◌≤◌, length, IfOk};
-ghost use Rattle.board.specs.Numbers.{small};
-ghost use Rattle.board.specs.Board.{board_of, total};
+ghost use Rattle.std.specs.Prelude.{◌≡◌, ◌≤◌, IfOk};
+ghost use Rattle.lent.specs.Lent.{board};
 ghost use Rattle.paper.specs.Rules.{present};
 ghost use Rattle.queue_rules.specs.Walks.{counted};
 ghost use Rattle.telling.specs.Totals.{within};
 
-use crate::print::{decimal, text};
-use board::numbers::Size;
 use lent::by_word::{place_meant, task_meant};
+use lent::bytes::Lent;
 use std::io;
 use std::io::Write;
 
 // How many tasks are installed.
-pub fn count_present(z: Size, l: &[u8]) -> u16
-    requires { total z ≤ length l.now }
-    ensures { result ≡ counted (present (board_of z l.now)) z.tasks }
+pub fn count_present(l: Lent<'_>) -> u16
+    ensures { result ≡ counted (present (board l.entry)) l.entry.size.tasks }
 {
-    let most = z.tasks;
-    let mut k: u16 = 0;
-    let mut n: u16 = 0;
-    while k < most {
-        k += 1;
-        let t = task_meant(z, l, k);
-        if t.present() {
+    let mut n = 0;
+    for k in 1..=l.size.tasks {
+        if task_meant(l, k).present() {
             n += 1;
         }
     }
@@ -31,28 +24,20 @@ pub fn count_present(z: Size, l: &[u8]) -> u16
 }
 
 // Block m lies at a place whose byte is from low to high.
-fn lies(l: &[u8], m: u16, low: u8, high: u8) -> bool
-    requires { total small ≤ length l.now }
-    ensures { result ≡ within (board_of small l.now) low high m }
+fn lies(l: Lent<'_>, m: u16, low: u8, high: u8) -> bool
+    ensures { result ≡ within (board l.entry) low high m }
 {
-    let p = place_meant(Size::SMALL, l, m);
-    let at = p.byte();
-    if at < low {
-        return false;
-    }
-    at <= high
+    let at = place_meant(l, m).byte();
+    low <= at && at <= high
 }
 
-// How many blocks lie at places whose byte is from low to high. Held are 1 to 32, queued 65 to 96, on the timer
-// 128.
-pub fn blocks(l: &[u8], low: u8, high: u8) -> u16
-    requires { total small ≤ length l.now }
-    ensures { (result ≡ counted (within (board_of small l.now) low high) 128) × (result ≤ 128) }
+// How many blocks lie at places whose byte is from low to high. On the small board held are 1 to 32, queued 65 to 96, on the
+// timer 128.
+pub fn blocks(l: Lent<'_>, low: u8, high: u8) -> u16
+    ensures { (result ≡ counted (within (board l.entry) low high) l.entry.size.messages) × (result ≤ l.entry.size.messages) }
 {
-    let mut m: u16 = 0;
-    let mut n: u16 = 0;
-    while m < 128 {
-        m += 1;
+    let mut n = 0;
+    for m in 1..=l.size.messages {
         if lies(l, m, low, high) {
             n += 1;
         }
@@ -61,30 +46,26 @@ pub fn blocks(l: &[u8], low: u8, high: u8) -> u16
 }
 
 // Answers how many tasks are installed.
-pub fn tell_installed<W: Write>(out: &mut W, l: &[u8]) -> io::Result<u16>
-    requires { total small ≤ length l.now }
-    ensures { IfOk result (λ n. n ≡ counted (present (board_of small l.now)) 32) }
+pub fn tell_installed<W: Write>(out: &mut W, l: Lent<'_>) -> io::Result<u16>
+    ensures { IfOk result (λ n. n ≡ counted (present (board l.entry)) l.entry.size.tasks) }
 {
-    let n = count_present(Size::SMALL, l);
-    decimal(out, n as u64)?;
-    text(out, b" of 32 tasks installed")?;
+    let n = count_present(l);
+    write!(out, "{n} of {} tasks installed", l.size.tasks)?;
     Ok(n)
 }
 
 // Answers how many blocks are free.
-pub fn tell_blocks<W: Write>(out: &mut W, l: &[u8]) -> io::Result<u16>
-    requires { total small ≤ length l.now }
-    ensures { IfOk result (λ n. n ≡ counted (within (board_of small l.now) 0 0) 128) }
+pub fn tell_blocks<W: Write>(out: &mut W, l: Lent<'_>) -> io::Result<u16>
+    ensures { IfOk result (λ n. n ≡ counted (within (board l.entry) 0 0) l.entry.size.messages) }
 {
     let free = blocks(l, 0, 0);
-    text(out, b"128 blocks: ")?;
-    decimal(out, free as u64)?;
-    text(out, b" free, ")?;
-    decimal(out, blocks(l, 1, 32) as u64)?;
-    text(out, b" held, ")?;
-    decimal(out, blocks(l, 65, 96) as u64)?;
-    text(out, b" queued, ")?;
-    decimal(out, blocks(l, 128, 128) as u64)?;
-    text(out, b" on the timer")?;
+    write!(
+        out,
+        "{} blocks: {free} free, {} held, {} queued, {} on the timer",
+        l.size.messages,
+        blocks(l, 1, 32),
+        blocks(l, 65, 96),
+        blocks(l, 128, 128),
+    )?;
     Ok(free)
 }

@@ -6,13 +6,13 @@ use mathlib.Core.Bool.{Bool, true, false, true≢false}
 use mathlib.Core.List.{List, [], ◌∷◌}
 use Prim.Native.Nat.{ℕ, suc, ◌+◌, ◌-◌, ◌<◌}
 use native.Mathlib.Omega.{arith}
+use Rattle.std.specs.Prelude.{Err, Ok}
 use Rattle.board.specs.declared.numbers.Size.{Size}
 use Rattle.board.specs.Board.{Board, board_of, message}
 use Rattle.timer.specs.Timer.{Timer, timer_of}
-use Rattle.paper.specs.declared.answer.Answer.{Answer}
-use Rattle.paper.specs.declared.answer.Answer.TheVariants.{Accepted, Refused}
 use Rattle.paper.specs.Refusals.{Verdict, Go, Stop, given}
 use Rattle.paper.specs.Outcomes.{judge, undispatched, dispatch, effect}
+use Rattle.paper.specs.Answers.{Answer, accepts}
 use Rattle.kept.proofs.Timers.{calls_leave_the_timer}
 use Rattle.timing.specs.Timing.{start_row, tick_row, started, started_timer, next_now, returned, ticked, Timed, timed, start, tick}
 use Rattle.timing.specs.Events.{Event, Called, Started, Ticked, RanAll, run_all, ticks}
@@ -27,8 +27,8 @@ use Rattle.ticked.proofs.Waits.{start-waits, start-waits_on, tick-waits_on, tick
 
 -- an answer that refuses nothing
 abbrev is_accepted : Answer → Bool
-is_accepted (Accepted v c m) = true
-is_accepted (Refused q) = false
+is_accepted (Ok a) = true
+is_accepted (Err q) = false
 
 -- the message m waits in these bytes, for n ticks, and then goes back to r
 abbrev WaitsIn : Size → List ℕ → List ℕ → ℕ → ℕ → ℕ → Type 0
@@ -61,7 +61,7 @@ module _ (z : Size) (a : TimerSizes z) (l s : List ℕ) (p : Passing z l s) wher
         (start-leaves z l s a p.bytes.bytes p.timer_bytes.bytes k delay e) w
 
     -- accepted, so its message waits for its delay
-    begins : (v : Verdict) → verdict ≡ v → (x y i : ℕ) → (outcome v).answer ≡ Accepted x y i
+    begins : (v : Verdict) → verdict ≡ v → (x y i : ℕ) → (outcome v).answer ≡ accepts x y i
         → WaitsIn z (outcome v).board (outcome v).timer k (message b k).sptr delay
     begins Go e x y i h = goes_on e k _ delay (start-waits b b.running t k delay (startable e))
     begins (Stop q) e x y i h = absurd (true≢false (sym (ap is_accepted h)))

@@ -7,13 +7,13 @@ use mathlib.Core.List.{List}
 use Prim.Native.Nat.{ℕ}
 use native.Mathlib.Omega.{arith}
 use lib.ListN.{get_or, length}
+use Rattle.std.specs.Prelude.{Err}
 use Rattle.board.specs.declared.numbers.Size.{Size}
 use Rattle.board.specs.Records.{Byte}
 use Rattle.board.specs.Board.{Board, board_of, total}
 use Rattle.timer.specs.Timer.{Timer, timer_of, timer_bytes}
 use Rattle.paper.specs.declared.answer.Refusal.{Refusal}
 use Rattle.paper.specs.declared.answer.Refusal.TheVariants.{NothingToDeliver}
-use Rattle.paper.specs.declared.answer.Answer.TheVariants.{Refused}
 use Rattle.paper.specs.Rules.{passes}
 use Rattle.paper.specs.Refusals.{Verdict, Go, Stop, given}
 use Rattle.paper.specs.Outcomes.{Outcome, undispatched, judge, dispatch}
@@ -130,7 +130,7 @@ module _ (z : Size) (l s : List ℕ) (d : Board) (t : Timer) (a : Sizes z) where
 
   -- and it isn't stuck, where the row doesn't say so
   pub not_stuck : (v : Verdict) → (v ≡ Go → Left z d t) → ((q : Refusal) → v ≡ Stop q → q ≢ NothingToDeliver)
-      → (judge l v outcome).answer ≢ Refused NothingToDeliver
+      → (judge l v outcome).answer ≢ Err NothingToDeliver
   not_stuck Go left below =
       let h = left refl in dispatch-accepts z l (undispatched 0 d) h.order h.queues a h.settled
   not_stuck (Stop q) left below = λ r. let same : q ≡ NothingToDeliver = cc in below q refl same

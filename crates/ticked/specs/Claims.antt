@@ -17,7 +17,7 @@
 --   ExactlyTheDelay        a started message is on the timer until the delay-th tick after its start, whatever calls, starts and ticks
 --                          come between, and goes back to its SPTR task at that tick
 -- Assumes nothing.
-use Rattle.std.specs.Prelude.{◌≡◌, ◌≢◌, ◌⊎◌, true, cond, List, [], ◌∷◌, ℕ, suc, ◌<◌, get_or}
+use Rattle.std.specs.Prelude.{◌≡◌, ◌≢◌, ◌⊎◌, true, cond, List, [], ◌∷◌, ℕ, suc, ◌<◌, get_or, Err}
 use Rattle.links.specs.Chain.{All}
 use Rattle.board.specs.declared.numbers.Size.{Size}
 use Rattle.board.specs.declared.places.Place.TheVariants.{HeldBy, QueuedAt, OnTimer}
@@ -29,9 +29,9 @@ use Rattle.timer.specs.declared.entry.Entry.{Entry}
 use Rattle.timer.specs.Timer.{Timer, timer_of, is_due, entry}
 use Rattle.timer.specs.Claims.{TimerBytes}
 use Rattle.paper.specs.declared.answer.Refusal.TheVariants.{NothingToDeliver}
-use Rattle.paper.specs.declared.answer.Answer.TheVariants.{Accepted, Refused}
 use Rattle.paper.specs.Rules.{passes}
 use Rattle.paper.specs.Effects.{give_back}
+use Rattle.paper.specs.Answers.{accepts}
 use Rattle.linked.specs.Claims.{Whereabouts}
 use Rattle.kept.specs.Settled.{Settled, Fitting}
 use Rattle.kept.specs.Touched.{IntoQueue, queues_after}
@@ -66,12 +66,12 @@ EventsStayPassing =
 abbrev pub NeverStuck : Type 0
 NeverStuck =
     (z : Size) (l s : List ℕ) → TimerSizes z → ((i : ℕ) → Byte (get_or l i 0)) → ((i : ℕ) → Byte (get_or s i 0))
-    → ((m delay : ℕ) → Word m → Word delay → (start z l s m delay).answer ≢ Refused NothingToDeliver)
-    × ((tick z l s).answer ≢ Refused NothingToDeliver)
+    → ((m delay : ℕ) → Word m → Word delay → (start z l s m delay).answer ≢ Err NothingToDeliver)
+    × ((tick z l s).answer ≢ Err NothingToDeliver)
 
 abbrev pub TicksGo : Type 0
 TicksGo =
-    (z : Size) (l s : List ℕ) → TimerSizes z → Passing z l s → (c : ℕ) × (m : ℕ) × ((tick z l s).answer ≡ Accepted 0 c m)
+    (z : Size) (l s : List ℕ) → TimerSizes z → Passing z l s → (c : ℕ) × (m : ℕ) × ((tick z l s).answer ≡ accepts 0 c m)
 
 -- ---- demand 2, its last sentence, judged against the buffer
 abbrev pub OneTimer : Timer → ℕ → Type 0
@@ -80,7 +80,7 @@ OneTimer t m =
 
 abbrev pub BlocksOnce : Size → Timed → Type 0
 BlocksOnce z o =
-    (v c k : ℕ) → o.answer ≡ Accepted v c k → (m : ℕ) → Numbered z.messages m → let b = board_of z o.board in
+    (v c k : ℕ) → o.answer ≡ accepts v c k → (m : ℕ) → Numbered z.messages m → let b = board_of z o.board in
     Whereabouts z b m × (place b m ≡ OnTimer → OneTimer (timer_of o.timer) m)
     × (place b m ≢ OnTimer → (j : ℕ) → Numbered 16 j → (entry (timer_of o.timer) j).message ≢ m)
 
@@ -105,12 +105,12 @@ DueInEntryOrder =
 -- ---- the delay
 abbrev pub GoesBack : Size → Timed → ℕ → ℕ → Type 0
 GoesBack z o r m = let p = place (board_of z o.board) m in
-    (c : ℕ) × (k : ℕ) × (o.answer ≡ Accepted 0 c k) × ((p ≡ QueuedAt (task_no r)) ⊎ ((k ≡ m) × (c ≡ r) × (p ≡ HeldBy (task_no r))))
+    (c : ℕ) × (k : ℕ) × (o.answer ≡ accepts 0 c k) × ((p ≡ QueuedAt (task_no r)) ⊎ ((k ≡ m) × (c ≡ r) × (p ≡ HeldBy (task_no r))))
 
 abbrev pub ExactlyTheDelay : Type 0
 ExactlyTheDelay =
     (z : Size) (l s : List ℕ) (m delay v c k : ℕ) → TimerSizes z → Passing z l s → Word m → Word delay
-    → let o = start z l s m delay in o.answer ≡ Accepted v c k
+    → let o = start z l s m delay in o.answer ≡ accepts v c k
     → (between : List Event) → AllEventsFit between → ticks between < delay
     → let p = run_all z o.board o.timer between in
     (place (board_of z p.board) m ≡ OnTimer)

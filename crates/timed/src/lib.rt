@@ -8,7 +8,8 @@ ghost use Rattle.board.specs.Board.{board_of, total};
 ghost use Rattle.paper.specs.Effects.{lowest_free};
 
 use block_calls::lowest_free;
-use board::numbers::Size;
+use board::numbers::{Number, Size};
+use lent::bytes::Lent;
 
 // The lowest-numbered free message of a board, 0 if none; and 0 for bytes of another length.
 #[unsafe(no_mangle)]
@@ -18,6 +19,9 @@ pub extern "C" fn timed_lowest_free(board: &[u8]) -> u16
     if board.len() != 1476 {
         return 0;
     }
-    let free = lowest_free(Size::SMALL, board);
-    free.number()
+    let l = Lent {
+        size: Size::SMALL,
+        bytes: board,
+    };
+    lowest_free(l).number()
 }

@@ -2,7 +2,7 @@
 ghost use Rattle.std.specs.Prelude.{◌≡◌};
 ghost use Rattle.timer.specs.Timer.{no_entry, is_used, is_due};
 
-#[derive(Clone, Copy)]
+#[derive(Clone, Copy, Debug, Default, PartialEq, Eq)]
 pub struct Entry {
     pub message: u8,
     pub due: u16,
@@ -13,7 +13,7 @@ impl Entry {
     pub fn none() -> Entry
         ensures { result ≡ no_entry }
     {
-        Entry { message: 0, due: 0 }
+        Entry::default()
     }
 
     pub fn used(self) -> bool
@@ -26,9 +26,6 @@ impl Entry {
     pub fn is_due(self, at: u16) -> bool
         ensures { result ≡ is_due at self }
     {
-        if self.used() {
-            return self.due == at;
-        }
-        false
+        self.used() && self.due == at
     }
 }

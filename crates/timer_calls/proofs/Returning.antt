@@ -5,13 +5,10 @@
 use Rattle.std.proofs.Common.{◌≡◌, ℕ, zero, suc, ◌+◌, ◌<◌, ◌≤◌, Bool, true, false, cond, ◌||◌, List, [], ◌∷◌, map, length, get_or, drop, set, sym, refl, ap, ◌∙◌, subst, arith, drop_of_length-le, drop-cons}
 use mathlib.Core.Bool.{or-true, or-false}
 use lib.Seq.{set-get_or}
+use Rattle.std.specs.Prelude.{Option, Some, None}
 use Rattle.board.specs.declared.numbers.Size.{Size}
 use Rattle.board.specs.declared.numbers.TaskNo.{TaskNo}
 use Rattle.board.specs.declared.numbers.MsgNo.{MsgNo}
-use Rattle.board.specs.declared.numbers.TaskMeant.{TaskMeant}
-use Rattle.board.specs.declared.numbers.TaskMeant.TheVariants.{Task, NoTask}
-use Rattle.board.specs.declared.numbers.MessageMeant.{MessageMeant}
-use Rattle.board.specs.declared.numbers.MessageMeant.TheVariants as means
 use Rattle.board.specs.declared.records.Message.{Message}
 use Rattle.board.specs.Numbers.{outside, task_meant, message_meant}
 use Rattle.board.specs.Records.{Byte}
@@ -24,17 +21,19 @@ use Rattle.timer.specs.Claims.{TimerBytes}
 use Rattle.timer.proofs.Codec.{length-entries, writing_back_changes_nothing}
 use Rattle.timer.proofs.Written.{length-put_entry, timer-put_now, timer-put-entry}
 use Rattle.paper.specs.Rules.{first_ready}
-use Rattle.paper.specs.declared.answer.Answer.{Answer}
 use Rattle.paper.specs.Outcomes.{Ends}
+use Rattle.paper.specs.Answers.{Answer}
 use Rattle.timing.specs.Timing.{wrapped, next_now, freed, EndsTimed}
-use Rattle.stores.specs.declared.Body.TheVariants.{Done}
 use Rattle.stores.specs.Effects.{place_at, pass_on}
 use Rattle.stores.specs.Calls.{finish}
-use Rattle.timer_calls.specs.Stores.{Makes, given_back, returned_bytes, any_due, returning, ticking, tick_called}
+use Rattle.lent.specs.declared.bytes.LentMut.{LentMut}
+use Rattle.stores.specs.Answers as stores
+use Rattle.stores.specs.Answers.{done}
+use Rattle.timer_calls.specs.Stores.{Makes, Made, Ended, given_back, returned_bytes, any_due, returning, ticking, tick_called}
 use Rattle.timer_calls.proofs.Starting.{dispatched}
 
 -- ---- message m goes back: x is the message meant
-module _ (z : Size) (l : List ℕ) (m : ℕ) {x : MessageMeant} (ex : x ≡ message_meant z m) where
+module _ (z : Size) (l : List ℕ) (m : ℕ) {x : Option MsgNo} (ex : x ≡ message_meant z m) where
   abbrev b : Board
   b = board_of z l
 
@@ -43,11 +42,11 @@ module _ (z : Size) (l : List ℕ) (m : ℕ) {x : MessageMeant} (ex : x ≡ mess
   back_by t v e f = λ i. cond (sym e i || sym f i) l (pass_on z l m (message b m).sptr)
 
   -- the board has no such message
-  pub back_none : x ≡ means.NoMessage → l ≡ given_back z l m
+  pub back_none : x ≡ None → l ≡ given_back z l m
   back_none e = back_by true _ (message_meant_none z m (sym ex ∙ e)) refl
 
   -- it is `one`, of record u, and y is the task that its SPTR means
-  module _ {one : MsgNo} (eo : x ≡ means.Message one) {u : Message} (eu : u ≡ message b one.0) {y : TaskMeant}
+  module _ {one : MsgNo} (eo : x ≡ Some one) {u : Message} (eu : u ≡ message b one.0) {y : Option TaskNo}
       (ey : y ≡ task_meant z u.sptr) where
     found : (outside z.messages m ≡ false) × (one ≡ record { 0 = m })
     found = message_meant-message z m one (sym ex ∙ eo)
@@ -59,11 +58,11 @@ module _ (z : Size) (l : List ℕ) (m : ℕ) {x : MessageMeant} (ex : x ≡ mess
     sender = (λ i. task_meant z (sym reads i).sptr) ∙ sym ey
 
     -- nor such a task
-    pub back_nobody : y ≡ NoTask → l ≡ given_back z l m
+    pub back_nobody : y ≡ None → l ≡ given_back z l m
     back_nobody e = back_by false true found.0 (task_meant_none z (message b m).sptr (sender ∙ e))
 
     -- it is r: the message is placed there as it is
-    pub back_at : {r : TaskNo} {d : List ℕ} → y ≡ Task r → d ≡ place_at z l one.0 u r.0 → d ≡ given_back z l m
+    pub back_at : {r : TaskNo} {d : List ℕ} → y ≡ Some r → d ≡ place_at z l one.0 u r.0 → d ≡ given_back z l m
     back_at {r = r} e ed =
         let t = task_meant-task z (message b m).sptr r (sender ∙ e) in
         ed ∙ (λ i. place_at z l (found.1 i).0 (reads i) (t.1 i).0) ∙ back_by false false found.0 t.0
@@ -198,14 +197,14 @@ module _ (z : Size) (l s : List ℕ) (h : length s ≡ timer_length) {w at : ℕ
   stepped = ap timer_of ef ∙ timer-put_now s (omega arith) at
 
   tick_by : (v : Bool) → any ≡ v
-      → Makes (cond v (task_meant z (first_ready z (board_of z d))) NoTask) d e (ticking z l s)
+      → Makes (cond v (task_meant z (first_ready z (board_of z d))) None) d e (ticking z l s)
   tick_by v ev =
       let a : any ≡ any_due (next_now (timer_of s)) (timer_of s).entries =
       made.answers ∙ (λ i. any_due (is_now i) (stepped i).entries) in
       let b : d ≡ returned_bytes z (next_now (timer_of s)) (timer_of s).entries l =
       made.board ∙ (λ i. returned_bytes z (is_now i) (stepped i).entries l) in
       record {
-        answers = λ i. cond ((sym ev ∙ a) i) (task_meant z (first_ready z (board_of z (b i)))) NoTask;
+        answers = λ i. cond ((sym ev ∙ a) i) (task_meant z (first_ready z (board_of z (b i)))) None;
         board = b;
         timer = made.timer
             ∙ (λ i. timer_bytes (timer (stepped i).ticks (map (freed at) (stepped i).entries)))
@@ -213,19 +212,20 @@ module _ (z : Size) (l s : List ℕ) (h : length s ≡ timer_length) {w at : ℕ
       }
 
   -- a message went back: x is the first ready task
-  pub tick-stirs : any ≡ true → {x : TaskMeant} → x ≡ task_meant z (first_ready z (board_of z d)) → Makes x d e (ticking z l s)
-  tick-stirs y ex = subst (λ (x : TaskMeant). Makes x d e (ticking z l s)) (sym ex) (tick_by true y)
+  pub tick-stirs : any ≡ true → {x : Option TaskNo} → x ≡ task_meant z (first_ready z (board_of z d)) → Makes x d e (ticking z l s)
+  tick-stirs y ex = subst (λ (x : Option TaskNo). Makes x d e (ticking z l s)) (sym ex) (tick_by true y)
 
   -- none did
-  pub tick-rests : any ≡ false → Makes NoTask d e (ticking z l s)
+  pub tick-rests : any ≡ false → Makes None d e (ticking z l s)
   tick-rests n = tick_by false n
 
 -- ---- and dispatch behind it: n ran before, and x is whoever may have become ready
-pub tick-made : (z : Size) (l s : List ℕ) {n : ℕ} {x : TaskMeant} {d e : List ℕ} → n ≡ (board_of z l).running
-    → Makes x d e (ticking z l s) → {a : Answer} {f : List ℕ} → Ends a f (finish z n (Done 0 x) d)
-    → EndsTimed a f e (tick_called z l s)
+pub tick-made : (s : List ℕ) {n : ℕ} {x : Option TaskNo} {old mid new : LentMut} {e : List ℕ}
+    → n ≡ (board_of old.size old.bytes.now).running → Made x old mid e (ticking old.size old.bytes.now s) → {a : Answer}
+    → stores.Ended a mid new (finish mid.size n (done 0 x) mid.bytes.now) → Ended a old new e (tick_called old.size old.bytes.now s)
 unfolding tick_called
-tick-made z l s r made =
-    let o = ticking z l s in
-    dispatched z (board_of z l).running (record { answer = Done 0 o.answer; board = o.board; timer = o.timer }) r
-    (record { answers = ap (Done 0) made.answers; board = made.board; timer = made.timer })
+tick-made s {old = old} r made =
+    let o = ticking old.size old.bytes.now s in
+    dispatched old.size (board_of old.size old.bytes.now).running
+    (record { answer = done 0 o.answer; board = o.board; timer = o.timer }) refl r
+    (record { answers = ap (done 0) made.answers; becomes = made.becomes; timer = made.timer })

@@ -1,6 +1,8 @@
 -- What code stores for start and for tick, on the bytes l of a board and s of a timer buffer. Contracts of code cite this file;
 -- that it comes to the definitions of start and tick is proved (timer_stored), so no reader needs to believe it.
---   Reply, Makes             what an inner step answers and leaves of both buffers; a contract's one clause
+--   Reply, Makes             what an inner step answers and leaves of both buffers
+--   Made a old new s o       the same of a board on lent bytes and the buffer s: a contract's one clause; Ended of a whole call
+--   entry_meant n            the entry of that number, none for 0
 --   starting_held, starting  start behind 18: of a held message m, and of any
 --   start_called             and dispatch behind it
 --   given_back z l m         message m placed at its SPTR task; nothing where one of the two isn't on the board
@@ -9,25 +11,25 @@
 --   returning, ticking      a tick's work on both buffers, whether there was any, and whoever may then outrank who ran
 --   tick_called             and dispatch behind it
 -- Assumes nothing.
-use Rattle.std.specs.Prelude.{◌≡◌, ℕ, ◌+◌, ◌%◌, Bool, false, cond, ◌||◌, List, [], ◌∷◌, map}
+use Rattle.std.specs.Prelude.{◌≡◌, ℕ, ◌+◌, ◌%◌, Bool, false, cond, ◌||◌, List, [], ◌∷◌, map, Option, Some, None, eqb}
 use Rattle.board.specs.declared.numbers.Size.{Size}
-use Rattle.board.specs.declared.numbers.TaskMeant.{TaskMeant}
-use Rattle.board.specs.declared.numbers.TaskMeant.TheVariants.{NoTask}
+use Rattle.board.specs.declared.numbers.TaskNo.{TaskNo}
 use Rattle.board.specs.declared.places.Place.TheVariants.{OnTimer}
 use Rattle.board.specs.Numbers.{outside, task_meant}
 use Rattle.board.specs.Board.{board_of, message}
+use Rattle.lent.specs.declared.bytes.LentMut.{LentMut}
+use Rattle.lent.specs.Lent.{Becomes}
 use Rattle.board.specs.Writes.{put_place}
 use Rattle.timer.specs.declared.entry.Entry.{Entry}
 use Rattle.timer.specs.Timer.{timer, timer_of, timer_bytes, is_due}
 use Rattle.timer.specs.Writes.{put_entry}
 use Rattle.paper.specs.Rules.{first_ready}
 use Rattle.paper.specs.Refusals.{no6, no7, Verdict, given}
+use Rattle.paper.specs.Answers.{Answer}
 use Rattle.paper.specs.Outcomes.{Outcome}
 use Rattle.timing.specs.Timing.{no16, no17, start_own, lowest_entry, wrapped, next_now, freed, ticked, Timed}
-use Rattle.stores.specs.declared.Body.{Body}
-use Rattle.stores.specs.declared.Body.TheVariants.{Done}
 use Rattle.stores.specs.Effects.{pass_on}
-use Rattle.stores.specs.Answers.{rests, body_by, bytes_by}
+use Rattle.stores.specs.Answers.{rests, body_by, bytes_by, Body, done}
 use Rattle.stores.specs.Calls.{finish}
 
 pub record Reply (A : Type 0) : Type 0 where
@@ -40,10 +42,23 @@ pub record Makes {A : Type 0} (a : A) (l s : List ℕ) (o : Reply A) : Type 0 wh
   pub board : l ≡ o.board
   pub timer : s ≡ o.timer
 
+pub record Made {A : Type 0} (a : A) (old new : LentMut) (s : List ℕ) (o : Reply A) : Type 0 where
+  pub answers : a ≡ o.answer
+  pub becomes : Becomes old new o.board
+  pub timer : s ≡ o.timer
+
+pub record Ended (a : Answer) (old new : LentMut) (s : List ℕ) (o : Timed) : Type 0 where
+  pub answers : a ≡ o.answer
+  pub becomes : Becomes old new o.board
+  pub timer : s ≡ o.timer
+
 abbrev pub behind : Outcome → List ℕ → Timed
 behind o s = record { answer = o.answer; board = o.after; timer = s }
 
 -- ---- start
+abbrev pub entry_meant : ℕ → Option ℕ
+entry_meant n = cond (eqb n 0) None (Some n)
+
 abbrev pub start_by : Verdict → Size → List ℕ → List ℕ → ℕ → ℕ → Reply Body
 start_by v z l s m delay = let t = timer_of s in record {
   answer = body_by v (rests 0 l);
@@ -82,13 +97,13 @@ returning z l s at = let t = timer_of s in record {
   timer = timer_bytes (timer t.ticks (map (freed at) t.entries));
 }
 
-abbrev pub ticking : Size → List ℕ → List ℕ → Reply TaskMeant
+abbrev pub ticking : Size → List ℕ → List ℕ → Reply (Option TaskNo)
 ticking z l s = let t = timer_of s in let at = next_now t in let d = returned_bytes z at t.entries l in record {
-  answer = cond (any_due at t.entries) (task_meant z (first_ready z (board_of z d))) NoTask;
+  answer = cond (any_due at t.entries) (task_meant z (first_ready z (board_of z d))) None;
   board = d;
   timer = timer_bytes (ticked t);
 }
 
 unfoldable pub tick_called : Size → List ℕ → List ℕ → Timed
 tick_called z l s = let o = ticking z l s in
-    behind (finish z (board_of z l).running (Done 0 o.answer) o.board) o.timer
+    behind (finish z (board_of z l).running (done 0 o.answer) o.board) o.timer

@@ -1,80 +1,72 @@
 // A tick: now goes on by one, each message that is due goes back to its SPTR task in entry order, and dispatch ends it.
-ghost use Rattle.std.specs.Prelude.{◌≡◌, ◌≤◌, length};
-ghost use Rattle.board.specs.Board.{total};
+ghost use Rattle.std.specs.Prelude.{◌≡◌, length};
+ghost use Rattle.lent.specs.Lent.{Becomes};
+ghost use Rattle.stores.specs.Answers.{Runner};
 ghost use Rattle.timer.specs.Timer.{timer_length};
-ghost use Rattle.timing.specs.Timing.{EndsTimed};
-ghost use Rattle.stores.specs.Answers.{Runs};
-ghost use Rattle.timer_calls.specs.Stores.{given_back, Makes, returning, ticking, tick_called};
+ghost use Rattle.timer_calls.specs.Stores.{given_back, Made, Ended, returning, ticking, tick_called};
 
-use board::numbers::{MessageMeant, MsgNo, Size, TaskMeant, TaskNo};
+use board::numbers::{MsgNo, TaskNo};
 use dispatch::dispatch;
-use lent::bytes::message_at;
+use lent::bytes::LentMut;
 use order_rules::who::first_ready;
 use paper::answer::Answer;
 use place_calls::place::place;
-use std::num::wrapping_add_u16;
-use stores::Body;
+use stores::Done;
 use timer::bytes::{entry_at, now_at, put_entry, put_now};
 use timer::entry::Entry;
 
 // Message m is placed at its SPTR task.
-fn give_back(z: Size, l: &mut [u8], m: u8)
-    requires { total z ≤ length l.old }
-    ensures { l.new ≡ given_back z l.old m }
+fn give_back(l: &mut LentMut<'_>, m: u8)
+    ensures { Becomes l.old l.new (given_back l.old.size l.old.bytes.now m) }
 {
-    let meant = MsgNo::meant(z, m as u16);
-    let MessageMeant::Message(one) = meant else {
+    let Some(m) = MsgNo::meant(l.size, m as u16) else {
         return;
     };
-    let u = message_at(z, l, one);
-    let back = TaskNo::meant(z, u.sptr);
-    let TaskMeant::Task(r) = back else {
+    let u = l.read().message(m);
+    let Some(r) = TaskNo::meant(l.size, u.sptr) else {
         return;
     };
-    place(z, l, one, u, r);
+    place(l, m, u, r);
 }
 
 // Each message that is due at this tick goes back, and its entry is freed. True if there was one.
-fn return_due(z: Size, l: &mut [u8], s: &mut [u8], at: u16) -> bool
-    requires { (total z ≤ length l.old) × (length s.old ≡ timer_length) }
-    ensures { Makes result l.new s.new (returning z l.old s.old at) }
+fn return_due(l: &mut LentMut<'_>, s: &mut [u8], at: u16) -> bool
+    requires { length s.old ≡ timer_length }
+    ensures { Made result l.old l.new s.new (returning l.old.size l.old.bytes.now s.old at) }
 {
-    let mut i: u16 = 0;
     let mut any = false;
-    while i < 16 {
-        i += 1;
+    for before in 0..16 {
+        let i = before + 1;
         let e = entry_at(s, i);
-        if e.is_due(at) {
-            give_back(z, l, e.message);
-            put_entry(s, i, Entry::none());
-            any = true;
+        if !e.is_due(at) {
+            continue;
         }
+        give_back(l, e.message);
+        put_entry(s, i, Entry::none());
+        any = true;
     }
     any
 }
 
 // Whoever may have become ready by it: where a message went back, the first ready task, and else nobody.
-fn tick_body(z: Size, l: &mut [u8], s: &mut [u8]) -> TaskMeant
-    requires { (total z ≤ length l.old) × (length s.old ≡ timer_length) }
-    ensures { Makes result l.new s.new (ticking z l.old s.old) }
+fn tick_body(l: &mut LentMut<'_>, s: &mut [u8]) -> Option<TaskNo>
+    requires { length s.old ≡ timer_length }
+    ensures { Made result l.old l.new s.new (ticking l.old.size l.old.bytes.now s.old) }
 {
-    let at = wrapping_add_u16(now_at(s), 1);
+    let at = now_at(s).wrapping_add(1);
     put_now(s, at);
-    if return_due(z, l, s, at) {
-        return first_ready(z, l);
+    if return_due(l, s, at) {
+        first_ready(l.read())
+    } else {
+        None
     }
-    TaskMeant::NoTask
 }
 
 // And dispatch behind it, once.
-pub fn make_tick(z: Size, l: &mut [u8], s: &mut [u8], c: TaskMeant) -> Answer
-    requires { Runs z l.old c × (length s.old ≡ timer_length) }
-    ensures { EndsTimed result l.new s.new (tick_called z l.old s.old) }
+pub fn make_tick(l: &mut LentMut<'_>, s: &mut [u8], c: Option<TaskNo>) -> Answer
+    requires { Runner l.old.size l.old.bytes.now c × (length s.old ≡ timer_length) }
+    ensures { Ended result l.old l.new s.new (tick_called l.old.size l.old.bytes.now s.old) }
 {
-    let stirred = tick_body(z, l, s);
-    let done = Body::Done {
-        value: 0,
-        stirred: stirred,
-    };
-    dispatch(z, l, c, done)
+    let stirred = tick_body(l, s);
+    dispatch(l, c, Ok(Done { value: 0, stirred }))
 }

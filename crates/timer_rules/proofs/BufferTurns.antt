@@ -6,21 +6,18 @@ use mathlib.Core.Bool.{Bool, true, false, not, cond}
 use mathlib.Core.List.{List}
 use Prim.Native.Nat.{ℕ, ◌+◌, ◌-◌, ◌≤◌, ◌<◌}
 use native.Mathlib.Omega.{arith}
-use lib.Dec.{eqb}
 use lib.ListN.{length}
 use borrow.Author.Tests.{eq-eqb, ne_eqb}
+use Rattle.std.specs.Prelude.{None, Some, Option}
 use Rattle.links.specs.Queue.{each}
 use Rattle.links.proofs.Bools.{each_at, each_all, each_next, each_fails}
 use Rattle.board.specs.declared.numbers.Size.{Size}
-use Rattle.board.specs.Places.{is_on_timer}
-use Rattle.board.specs.Board.{Board, board_of, place}
+use Rattle.board.specs.Board.{Board, board_of}
 use Rattle.board.proofs.Codec.{length-places}
 use Rattle.timer.specs.declared.entry.Entry.{Entry}
 use Rattle.timer.specs.Timer.{Timer, timer_length, timer_of, is_used, entry}
 use Rattle.timing.specs.Timing.{good_timer}
 use Rattle.queue_rules.specs.Walks.{counted}
-use Rattle.timer_rules.specs.declared.Entries.{Entries}
-use Rattle.timer_rules.specs.declared.Entries.TheVariants.{Used, Bad}
 use Rattle.timer_rules.specs.Buffer.{timed_of, named_before, good_as, good_entry, used_of}
 use Rattle.timer_rules.proofs.Buffers.{other, as_many, good-timer_is}
 
@@ -53,21 +50,6 @@ module _ (t : Timer) (m : ℕ) where
   pub named_none : (i j : ℕ) → unnamed (j - 1) ≡ true → i ≤ j → false ≡ named_before t i m
   named_none i j inv h = ap not (sym (each_all (other t m) (i - 1) (λ k g n. each_at (other t m) (j - 1) inv k g (omega arith))))
 
--- ---- one entry
-module _ (b : Board) (t : Timer) (i : ℕ) (e : Entry) where
-  -- it is free
-  pub free-good : is_used e ≡ false → eqb e.due 0 ≡ good_as b t i e
-  free-good u = rw u
-
-  -- its message is elsewhere
-  pub untimed_bad : is_used e ≡ true → is_on_timer (place b e.message) ≡ false → false ≡ good_as b t i e
-  untimed_bad u p = rw (u, p)
-
-  -- it is on the timer, and whether an entry before names it is n
-  pub timed-good : {n : Bool} → is_used e ≡ true → is_on_timer (place b e.message) ≡ true → n ≡ named_before t i e.message
-      → not n ≡ good_as b t i e
-  timed-good u p d = rw (u, p) (ap not d)
-
 -- ---- all entries
 module _ (b : Board) (t : Timer) where
   -- entry i + 1 is e, and g whether it is good
@@ -76,26 +58,22 @@ module _ (b : Board) (t : Timer) where
     told = ap (good_as b t (i + 1)) (sym s) ∙ sym d
 
     -- it is not
-    pub entries_bad : i < 16 → g ≡ false → Bad ≡ used_of b t
+    pub entries_bad : i < 16 → g ≡ false → None ≡ used_of b t
     entries_bad h n =
         let f = each_fails (good_entry b t) 16 (i + 1) (omega arith) (omega arith) (told ∙ n) in
-        ap (λ (x : Bool). cond x (Used (counted (λ i. is_used (entry t i)) 16)) Bad) (sym f)
+        ap (λ (x : Bool). cond x (Some (counted (λ i. is_used (entry t i)) 16)) None) (sym f)
 
     -- it is
     pub entries-good : each (good_entry b t) i ≡ true → g ≡ true → each (good_entry b t) (i + 1) ≡ true
     entries-good inv y = each_next (good_entry b t) i inv (told ∙ y)
 
   -- each is, and n are used
-  pub entries-counted : (n : ℕ) → each (good_entry b t) 16 ≡ true → n ≡ counted (λ i. is_used (entry t i)) 16 → Used n ≡ used_of b t
-  entries-counted n e d = ap Used d ∙ ap (λ (x : Bool). cond x (Used (counted (λ i. is_used (entry t i)) 16)) Bad) (sym e)
+  pub entries-counted : (n : ℕ) → each (good_entry b t) 16 ≡ true → n ≡ counted (λ i. is_used (entry t i)) 16 → Some n ≡ used_of b t
+  entries-counted n e d = ap Some d ∙ ap (λ (x : Bool). cond x (Some (counted (λ i. is_used (entry t i)) 16)) None) (sym e)
 
 -- ---- the buffer
 module _ (z : Size) (l s : List ℕ) where
-  -- its length is wrong
-  pub timer_misfits : (length s ≡ timer_length → ⊥) → false ≡ good_timer (board_of z l) s
-  timer_misfits h = let p = good-timer_is z (board_of z l) s (length-places z l) in rw (p, ne_eqb (length s) timer_length h)
-
   -- its length is right, u is what the look at the entries told, and k messages are on the timer
-  pub timer-told : {u : Entries} {k : ℕ} → length s ≡ timer_length → u ≡ used_of (board_of z l) (timer_of s)
+  pub timer-told : {u : Option ℕ} {k : ℕ} → length s ≡ timer_length → u ≡ used_of (board_of z l) (timer_of s)
       → k ≡ timed_of z (board_of z l) → as_many u k ≡ good_timer (board_of z l) s
   timer-told h e d = let p = good-timer_is z (board_of z l) s (length-places z l) in rw (p, eq-eqb (length s) timer_length h, e, d)

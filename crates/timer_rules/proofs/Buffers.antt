@@ -11,6 +11,7 @@ use native.Mathlib.Omega.{arith}
 use lib.Dec.{eqb}
 use lib.ListN.{length, get_or}
 use borrow.Author.Tests.{eqb-true, eqb-false, eq-eqb, ne_eqb, not-true, not-false}
+use Rattle.std.specs.Prelude.{Option, Some, None}
 use Rattle.links.specs.Queue.{cons_if, which, rearranged, each}
 use Rattle.links.specs.Chain.{In, Once, All}
 use Rattle.links.proofs.Bools.{both, and_true, cond_holds, each_at, each_all}
@@ -28,8 +29,6 @@ use Rattle.timing.specs.Timing.{used, free_are_zero, on_timer, good_timer}
 use Rattle.queue_rules.specs.Walks.{counted}
 use Rattle.queue_rules.proofs.Counting.{counted-which}
 use Rattle.queue_rules.proofs.Lists.{alike}
-use Rattle.timer_rules.specs.declared.Entries.{Entries}
-use Rattle.timer_rules.specs.declared.Entries.TheVariants.{Used, Bad}
 use Rattle.timer_rules.specs.Buffer.{timed_of, named_before, good_entry, used_of}
 
 -- ---- the messages in entries, by the entry
@@ -201,15 +200,15 @@ module _ (b : Board) (t : Timer) where
 
 -- ---- as many are used as messages are on the timer
 -- what the look at the entries told is that each is good and m are used
-abbrev pub as_many : Entries → ℕ → Bool
-as_many (Used n) m = eqb n m
-as_many Bad m = false
+abbrev pub as_many : Option ℕ → ℕ → Bool
+as_many (Some n) m = eqb n m
+as_many None m = false
 
-many_says : (t : Bool) (n m : ℕ) → as_many (cond t (Used n) Bad) m ≡ true → (t ≡ true) × (n ≡ m)
+many_says : (t : Bool) (n m : ℕ) → as_many (cond t (Some n) None) m ≡ true → (t ≡ true) × (n ≡ m)
 many_says true n m e = (refl, eqb-true n m e)
 many_says false n m e = absurd (true≢false (sym e))
 
-says_many : (t : Bool) (n m : ℕ) → t ≡ true → n ≡ m → as_many (cond t (Used n) Bad) m ≡ true
+says_many : (t : Bool) (n m : ℕ) → t ≡ true → n ≡ m → as_many (cond t (Some n) None) m ≡ true
 says_many true n m e d = eq-eqb n m d
 says_many false n m e d = absurd (true≢false (sym e))
 

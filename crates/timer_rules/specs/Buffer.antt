@@ -6,7 +6,7 @@
 --   good_entry b t i      so does entry i
 --   used_of b t           how many are used, if each is good
 -- Assumes nothing.
-use Rattle.std.specs.Prelude.{Bool, cond, not, ◌&&◌, ℕ, ◌-◌, eqb}
+use Rattle.std.specs.Prelude.{Bool, cond, not, ◌&&◌, ℕ, ◌-◌, eqb, Option, Some, None}
 use Rattle.links.specs.Queue.{each}
 use Rattle.board.specs.declared.numbers.Size.{Size}
 use Rattle.board.specs.Places.{is_on_timer}
@@ -14,8 +14,6 @@ use Rattle.board.specs.Board.{Board, place}
 use Rattle.timer.specs.declared.entry.Entry.{Entry}
 use Rattle.timer.specs.Timer.{Timer, is_used, entry}
 use Rattle.queue_rules.specs.Walks.{counted}
-use Rattle.timer_rules.specs.declared.Entries.{Entries}
-use Rattle.timer_rules.specs.declared.Entries.TheVariants.{Used, Bad}
 
 abbrev pub timed_of : Size → Board → ℕ
 timed_of z b = counted (λ m. is_on_timer (place b m)) z.messages
@@ -29,5 +27,5 @@ good_as b t i e = cond (is_used e) (is_on_timer (place b e.message) && not (name
 abbrev pub good_entry : Board → Timer → ℕ → Bool
 good_entry b t i = good_as b t i (entry t i)
 
-abbrev pub used_of : Board → Timer → Entries
-used_of b t = cond (each (good_entry b t) 16) (Used (counted (λ i. is_used (entry t i)) 16)) Bad
+abbrev pub used_of : Board → Timer → Option ℕ
+used_of b t = cond (each (good_entry b t) 16) (Some (counted (λ i. is_used (entry t i)) 16)) None

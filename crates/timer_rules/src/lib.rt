@@ -3,34 +3,23 @@
 #![tactic(auto)]
 
 ghost use Rattle.std.specs.Prelude.{◌≡◌, ◌≤◌, length};
-ghost use Rattle.board.specs.Board.{board_of, total};
+ghost use Rattle.lent.specs.Lent.{board};
 ghost use Rattle.timer.specs.Timer.{timer_of};
 ghost use Rattle.timing.specs.Timing.{good_timer};
 ghost use Rattle.timer_rules.specs.Buffer.{named_before, good_as, used_of, timed_of};
 
-use board::numbers::Size;
 use lent::by_word::is_timed;
+use lent::bytes::Lent;
 use timer::bytes::entry_at;
 use timer::entry::Entry;
 
-// How many entries are used, if each is good.
-#[derive(Clone, Copy)]
-pub enum Entries {
-    Used(u16),
-    Bad,
-}
-
 // How many messages are placed on the timer.
-fn count_timed(z: Size, l: &[u8]) -> u16
-    requires { total z ≤ length l.now }
-    ensures { result ≡ timed_of z (board_of z l.now) }
+fn count_timed(l: Lent<'_>) -> u16
+    ensures { result ≡ timed_of l.entry.size (board l.entry) }
 {
-    let most = z.messages;
-    let mut m: u16 = 0;
-    let mut n: u16 = 0;
-    while m < most {
-        m += 1;
-        if is_timed(z, l, m) {
+    let mut n = 0;
+    for before in 0..l.size.messages {
+        if is_timed(l, before + 1) {
             n += 1;
         }
     }
@@ -42,62 +31,54 @@ fn named_before(s: &[u8], i: u16, m: u8) -> bool
     requires { 50 ≤ length s.now }
     ensures { result ≡ named_before (timer_of s.now) i m }
 {
-    let mut j: u16 = 1;
-    while j < i {
-        let e = entry_at(s, j);
-        if e.message == m {
+    for j in 1..i {
+        if entry_at(s, j).message == m {
             return true;
         }
-        j += 1;
     }
     false
 }
 
 // Entry i, which is e: used, it names a message that is on the timer and that no entry before it names; free, it is zero.
-fn good_entry(z: Size, l: &[u8], s: &[u8], i: u16, e: Entry) -> bool
-    requires { (total z ≤ length l.now) × (50 ≤ length s.now) }
-    ensures { result ≡ good_as (board_of z l.now) (timer_of s.now) i e }
+fn good_entry(l: Lent<'_>, s: &[u8], i: u16, e: Entry) -> bool
+    requires { 50 ≤ length s.now }
+    ensures { result ≡ good_as (board l.entry) (timer_of s.now) i e }
 {
-    if !e.used() {
-        return e.due == 0;
+    if e.used() {
+        is_timed(l, e.message as u16) && !named_before(s, i, e.message)
+    } else {
+        e.due == 0
     }
-    if !is_timed(z, l, e.message as u16) {
-        return false;
-    }
-    !named_before(s, i, e.message)
 }
 
-// Each entry is looked at, and the used ones are counted.
-fn count_used(z: Size, l: &[u8], s: &[u8]) -> Entries
-    requires { (total z ≤ length l.now) × (50 ≤ length s.now) }
-    ensures { result ≡ used_of (board_of z l.now) (timer_of s.now) }
+// Each entry is looked at, and the used ones are counted, if each is good.
+fn count_used(l: Lent<'_>, s: &[u8]) -> Option<u16>
+    requires { 50 ≤ length s.now }
+    ensures { result ≡ used_of (board l.entry) (timer_of s.now) }
 {
-    let mut i: u16 = 0;
-    let mut n: u16 = 0;
-    while i < 16 {
-        i += 1;
+    let mut n = 0;
+    for before in 0..16 {
+        let i = before + 1;
         let e = entry_at(s, i);
-        if !good_entry(z, l, s, i, e) {
-            return Entries::Bad;
+        if !good_entry(l, s, i, e) {
+            return None;
         }
         if e.used() {
             n += 1;
         }
     }
-    Entries::Used(n)
+    Some(n)
 }
 
 // The buffer s is one for the board l.
-pub fn good_timer(z: Size, l: &[u8], s: &[u8]) -> bool
-    requires { total z ≤ length l.now }
-    ensures { result ≡ good_timer (board_of z l.now) s.now }
+pub fn good_timer(l: Lent<'_>, s: &[u8]) -> bool
+    ensures { result ≡ good_timer (board l.entry) s.now }
 {
     if s.len() != 50 {
         return false;
     }
-    let entries = count_used(z, l, s);
-    let Entries::Used(n) = entries else {
+    let Some(n) = count_used(l, s) else {
         return false;
     };
-    n == count_timed(z, l)
+    n == count_timed(l)
 }

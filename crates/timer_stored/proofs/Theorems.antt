@@ -7,9 +7,9 @@ use Prim.Native.Nat.{ℕ, ◌+◌, ◌%◌}
 use native.Mathlib.Nat.{mod-eq_of_lt}
 use native.Mathlib.Omega.{arith}
 use lib.ListN.{length}
+use Rattle.std.specs.Prelude.{Option, None}
 use Rattle.board.specs.declared.numbers.Size.{Size}
-use Rattle.board.specs.declared.numbers.TaskMeant.{TaskMeant}
-use Rattle.board.specs.declared.numbers.TaskMeant.TheVariants.{NoTask}
+use Rattle.board.specs.declared.numbers.TaskNo.{TaskNo}
 use Rattle.board.specs.declared.places.Place.TheVariants.{OnTimer}
 use Rattle.board.specs.Numbers.{task_meant, number_of_task}
 use Rattle.board.specs.Board.{Board, board_of, bytes_of}
@@ -36,8 +36,7 @@ use Rattle.ticked.proofs.Starting.{start-row, start_settled}
 use Rattle.ticked.proofs.Returning.{returned_settled}
 use Rattle.ticked.proofs.Buffers.{matches_entered}
 use Rattle.ticked.proofs.Leaving.{Left, passing_left}
-use Rattle.stores.specs.declared.Body.TheVariants.{Done}
-use Rattle.stores.specs.Answers.{rests, body_by, bytes_by}
+use Rattle.stores.specs.Answers.{rests, body_by, bytes_by, done}
 use Rattle.stores.specs.Calls as calls
 use Rattle.timer_calls.specs.Stores.{behind, any_due, returned_bytes, start_called, tick_called}
 use Rattle.stored.proofs.Comes.{Comes, comes_timed}
@@ -67,12 +66,12 @@ module _ (z : Size) (l s : List ℕ) (a : TimerSizes z) (p : Passing z l s) wher
   right = (passing-sound z b a.sizes left.settled.fits p.sound).runs
 
   -- ---- a body whose bytes d come to the board e, where who runs next is told by comparing with w
-  module _ (d : List ℕ) (e : Board) (order : List ℕ) (queues : ℕ → List ℕ) (w : TaskMeant) (comes : Comes z d e)
+  module _ (d : List ℕ) (e : Board) (order : List ℕ) (queues : ℕ → List ℕ) (w : Option TaskNo) (comes : Comes z d e)
       (settled : Settled z e order queues) (next : then_on z e c (number_of_task w) ≡ runs_next z e) where
     runs : calls.runs_then z c w d ≡ runs_next z (board_of z d)
     runs = ap (λ (x : Board). then_on z x c (number_of_task w)) comes.1 ∙ next ∙ ap (runs_next z) (sym comes.1)
 
-    finish_comes : Small (calls.finish z c (Done 0 w) d).after → calls.finish z c (Done 0 w) d ≡ dispatch z l (undispatched 0 e)
+    finish_comes : Small (calls.finish z c (done 0 w) d).after → calls.finish z c (done 0 w) d ≡ dispatch z l (undispatched 0 e)
     finish_comes small =
         ap (λ (k : ℕ). calls.dispatch z 0 (put_running d (k % 256)) k) runs
         ∙ chosen_comes z l d 0 a.sizes order queues comes.0 (subst (λ (x : Board). Settled z x order queues) (sym comes.1) settled)
@@ -80,8 +79,8 @@ module _ (z : Size) (l s : List ℕ) (a : TimerSizes z) (p : Passing z l s) wher
         ∙ ap (λ (x : Board). dispatch z l (undispatched 0 x)) comes.1
 
     -- it is accepted, so the buffer is the new one
-    finish-timed : (new : Timer) → Small (calls.finish z c (Done 0 w) d).after
-        → behind (calls.finish z c (Done 0 w) d) (timer_bytes new) ≡ timed (dispatch z l (undispatched 0 e)) s new
+    finish-timed : (new : Timer) → Small (calls.finish z c (done 0 w) d).after
+        → behind (calls.finish z c (done 0 w) d) (timer_bytes new) ≡ timed (dispatch z l (undispatched 0 e)) s new
     finish-timed new small =
         let h = dispatched z order l queues 0 e a.sizes settled in
         ap (λ (o : Outcome). behind o (timer_bytes new)) (finish_comes small)
@@ -93,8 +92,8 @@ module _ (z : Size) (l s : List ℕ) (a : TimerSizes z) (p : Passing z l s) wher
     entry = record { message = m % 256; due = wrapped (t.ticks + delay) }
 
     -- where nothing refuses it
-    start_goes : given (start_own z b c t m delay) ≡ Go → Small (calls.finish z c (Done 0 NoTask) (put_place z l m OnTimer)).after
-        → behind (calls.finish z c (Done 0 NoTask) (put_place z l m OnTimer)) (put_entry s (lowest_entry t) entry)
+    start_goes : given (start_own z b c t m delay) ≡ Go → Small (calls.finish z c (done 0 None) (put_place z l m OnTimer)).after
+        → behind (calls.finish z c (done 0 None) (put_place z l m OnTimer)) (put_entry s (lowest_entry t) entry)
         ≡ timed (dispatch z l (undispatched 0 (started b m))) s (started_timer t m delay)
     start_goes g small =
         let go = start-row z b c t m delay g in
@@ -107,8 +106,8 @@ module _ (z : Size) (l s : List ℕ) (a : TimerSizes z) (p : Passing z l s) wher
         let written : put_entry s (lowest_entry t) entry ≡ timer_bytes (started_timer t m delay) =
         put-entry-bytes s p.timer_bytes (lowest_entry t) entry (omega arith) (omega arith)
         ∙ ap (λ (n : ℕ). timer_bytes (started_timer t n delay)) byte in
-        ap (behind (calls.finish z c (Done 0 NoTask) (put_place z l m OnTimer))) written
-        ∙ finish-timed (put_place z l m OnTimer) e left.order left.queues NoTask
+        ap (behind (calls.finish z c (done 0 None) (put_place z l m OnTimer))) written
+        ∙ finish-timed (put_place z l m OnTimer) e left.order left.queues None
         (comes_timed z l p.bytes.long m a.sizes.tasks) settled next (started_timer t m delay) small
 
     start_by : (v : Verdict) → given (start_own z b c t m delay) ≡ v
@@ -135,8 +134,8 @@ module _ (z : Size) (l s : List ℕ) (a : TimerSizes z) (p : Passing z l s) wher
   bytes = returned_bytes z at t.entries l
 
   -- whoever is compared: the first ready task where a message went back, and else nobody
-  abbrev compared : Bool → TaskMeant
-  compared any = cond any (task_meant z (first_ready z (board_of z bytes))) NoTask
+  abbrev compared : Bool → Option TaskNo
+  compared any = cond any (task_meant z (first_ready z (board_of z bytes))) None
 
   pub tick-effect : Small (tick_called z l s).board → tick_called z l s ≡ tick z l s
   unfolding tick_called

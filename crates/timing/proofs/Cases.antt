@@ -8,10 +8,9 @@ use Rattle.timer.specs.declared.entry.Entry.{Entry}
 use Rattle.timer.specs.Timer.{Timer, timer, timer_bytes, no_entry}
 use Rattle.paper.specs.declared.call.Call.TheVariants.{Install, Claim, Prepare, Send, Receive, ReceiveAndWait, CancelMessage}
 use Rattle.paper.specs.declared.call.Call.TheVariants.{WaitForInterrupt}
-use Rattle.paper.specs.declared.answer.Answer.{Answer}
-use Rattle.paper.specs.declared.answer.Answer.TheVariants.{Accepted}
 use Rattle.paper.specs.Outcomes.{blank}
 use Rattle.paper.proofs.Slips.{tiny, ok}
+use Rattle.paper.specs.Answers.{Answer, accepts}
 use Rattle.timing.specs.Timing.{Timed, started_timer, freed, tick}
 use Rattle.timing.specs.Events.{Event, Called, Started, Ticked, RanAll, run_all}
 
@@ -124,7 +123,7 @@ sleeper =
     ∷ Prepare 1 0 0x15 2 ∷ Prepare 2 0 0x0B 2 ∷ [])
 
 abbrev asleep : List Answer
-asleep = Accepted 0 2 0 ∷ Accepted 0 0 0 ∷ ok ∷ Accepted 1 1 0 ∷ Accepted 2 1 0 ∷ ok ∷ ok ∷ []
+asleep = accepts 0 2 0 ∷ accepts 0 0 0 ∷ ok ∷ accepts 1 1 0 ∷ accepts 2 1 0 ∷ ok ∷ ok ∷ []
 
 abbrev answers_to : List Event → List Answer
 answers_to events = (run_all tiny (blank tiny) (buffer 0 []) events).answers
@@ -132,7 +131,7 @@ answers_to events = (run_all tiny (blank tiny) (buffer 0 []) events).answers
 -- dispatch comes once, at the end: task 2 is handed the first by rank, not the first by entry. Nobody ran when the tick came
 case_first_by_rank :
     answers_to (sleeper ++ (Started 1 1 ∷ Started 2 1 ∷ Called WaitForInterrupt ∷ Ticked ∷ []))
-    ≡ asleep ++ (ok ∷ ok ∷ Accepted 0 0 0 ∷ Accepted 0 2 2 ∷ [])
+    ≡ asleep ++ (ok ∷ ok ∷ accepts 0 0 0 ∷ accepts 0 2 2 ∷ [])
 case_first_by_rank = refl
 
 -- it goes to SPTR, task 1, and not to task 2, which it was sent to once
@@ -141,9 +140,9 @@ case_to_its_sender :
     (sleeper
     ++ (Called (Prepare 1 0 0x15 1) ∷ Called (Send 1 2) ∷ Called (CancelMessage 1 2)
     ∷ Started 1 1 ∷ Ticked ∷ Called Receive ∷ []))
-    ≡ asleep ++ (ok ∷ ok ∷ ok ∷ ok ∷ ok ∷ Accepted 1 1 0 ∷ [])
+    ≡ asleep ++ (ok ∷ ok ∷ ok ∷ ok ∷ ok ∷ accepts 1 1 0 ∷ [])
 case_to_its_sender = refl
 
 -- no task is there at all
-case_tick_with_nobody : (tick tiny (blank tiny) (buffer 0 [])).answer ≡ Accepted 0 0 0
+case_tick_with_nobody : (tick tiny (blank tiny) (buffer 0 [])).answer ≡ accepts 0 0 0
 case_tick_with_nobody = refl

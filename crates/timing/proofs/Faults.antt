@@ -4,17 +4,17 @@ use mathlib.Core.Bool.{Bool, true, false}
 use mathlib.Core.List.{List, [], ◌∷◌, ◌++◌, map}
 use Prim.Native.Nat.{ℕ}
 use lib.ListN.{replicate}
+use Rattle.std.specs.Prelude.{Err}
 use Rattle.board.specs.declared.numbers.Size.{Size}
 use Rattle.board.specs.Board.{join, board_of, bytes_of, with_message}
 use Rattle.timer.specs.declared.entry.Entry.{Entry}
 use Rattle.timer.specs.Timer.{timer, timer_bytes, no_entry}
-use Rattle.paper.specs.declared.answer.Answer.{Answer}
-use Rattle.paper.specs.declared.answer.Answer.TheVariants.{Accepted, Refused}
 use Rattle.paper.specs.declared.answer.Rule.TheVariants.{R1}
 use Rattle.paper.specs.declared.answer.Refusal.TheVariants.{WrongLength, RuleBroken, NobodyRuns, NoSuchMessage, NotHeld}
 use Rattle.paper.specs.declared.answer.Refusal.TheVariants.{NoSuchTask, BadPriority, NoDelay, NoTimerFree, BadTimer}
 use Rattle.paper.specs.Outcomes.{blank}
 use Rattle.paper.proofs.Slips.{tiny}
+use Rattle.paper.specs.Answers.{accepts, Answer}
 use Rattle.timing.specs.Timing.{good_timer, lowest_entry, start, tick}
 use Rattle.timing.proofs.Cases.{fires, buffer, station, holds}
 
@@ -54,7 +54,7 @@ case_other_length = refl
 -- a fresh board: now may be what it will, and no entry may be in use
 case_fresh_board :
     map (λ s. (tick tiny (blank tiny) s).answer) (buffer 700 [] ∷ buffer 0 (fires 1 5 ∷ []) ∷ [])
-    ≡ Accepted 0 0 0 ∷ Refused BadTimer ∷ []
+    ≡ accepts 0 0 0 ∷ Err BadTimer ∷ []
 case_fresh_board = refl
 
 -- ---- in the paper's order
@@ -63,7 +63,7 @@ abbrev boards : List (List ℕ)
 boards = [] ∷ (0 ∷ 0 ∷ 1 ∷ replicate 67 0) ∷ blank tiny ∷ []
 
 abbrev faults : List Answer
-faults = Refused WrongLength ∷ Refused (RuleBroken R1) ∷ Refused BadTimer ∷ []
+faults = Err WrongLength ∷ Err (RuleBroken R1) ∷ Err BadTimer ∷ []
 
 case_start_18 : map (λ l. (start tiny l [] 9 0).answer) boards ≡ faults
 case_start_18 = refl
@@ -72,12 +72,12 @@ case_tick_18 : map (λ l. (tick tiny l []).answer) boards ≡ faults
 case_tick_18 = refl
 
 -- 3, 4 and 5
-case_start_3 : (start tiny (blank tiny) (buffer 0 []) 9 0).answer ≡ Refused NobodyRuns
+case_start_3 : (start tiny (blank tiny) (buffer 0 []) 9 0).answer ≡ Err NobodyRuns
 case_start_3 = refl
 
 case_start_4_5 :
     map (λ m. (start tiny (station 0 0 0 1 128) (buffer 0 (fires 2 5 ∷ [])) m 0).answer) (0 ∷ 5 ∷ 2 ∷ 3 ∷ [])
-    ≡ Refused NoSuchMessage ∷ Refused NoSuchMessage ∷ Refused NotHeld ∷ Refused NotHeld ∷ []
+    ≡ Err NoSuchMessage ∷ Err NoSuchMessage ∷ Err NotHeld ∷ Err NotHeld ∷ []
 case_start_4_5 = refl
 
 -- 6 and 7 as for return, and 16 behind them: start replaces neither SPTR 0 nor priority 127
@@ -89,7 +89,7 @@ holding prio sptr =
 case_start_6_7_16 :
     map (λ l. (start tiny l (buffer 0 []) 1 0).answer)
     (holding 0xFF 0 ∷ holding 0xFF 3 ∷ holding 0xFF 1 ∷ holding 0xFE 1 ∷ holding 0xFD 1 ∷ [])
-    ≡ Refused NoSuchTask ∷ Refused NoSuchTask ∷ Refused BadPriority ∷ Refused BadPriority ∷ Refused NoDelay ∷ []
+    ≡ Err NoSuchTask ∷ Err NoSuchTask ∷ Err BadPriority ∷ Err BadPriority ∷ Err NoDelay ∷ []
 case_start_6_7_16 = refl
 
 -- ---- all sixteen in use, on a board of one task and seventeen messages, of which it holds the last, of this PRIO
@@ -111,10 +111,10 @@ sixteen =
 
 -- 17, and 16 before it, and 7 before both
 case_start_17 :
-    map (λ delay. (start seventeen (full 0x15) sixteen 17 delay).answer) (1 ∷ 0 ∷ []) ≡ Refused NoTimerFree ∷ Refused NoDelay ∷ []
+    map (λ delay. (start seventeen (full 0x15) sixteen 17 delay).answer) (1 ∷ 0 ∷ []) ≡ Err NoTimerFree ∷ Err NoDelay ∷ []
 case_start_17 = refl
 
-case_start_7_before_17 : (start seventeen (full 0xFF) sixteen 17 0).answer ≡ Refused BadPriority
+case_start_7_before_17 : (start seventeen (full 0xFF) sixteen 17 0).answer ≡ Err BadPriority
 case_start_7_before_17 = refl
 
 -- the sixteenth is there for whoever comes last

@@ -3,9 +3,9 @@ use mathlib.Core.Path.{◌≡◌, refl, ap₂, subst}
 use mathlib.Core.List.{List, [], ◌∷◌}
 use Prim.Native.Nat.{ℕ}
 use Rattle.board.specs.Numbers.{small}
-use Rattle.paper.specs.declared.answer.Answer.{Answer}
 use Rattle.timing.specs.Timing.{Timed}
 use Rattle.timing.specs.Events.{Event, happen, run_all, Happened}
+use Rattle.paper.specs.Answers.{Answer}
 
 pub happened-runs : (events : List Event) (answers : List Answer) (l s d t : List ℕ) → Happened l s events answers d t
     → let r = run_all small l s events in (answers ≡ r.answers) × (d ≡ r.board) × (t ≡ r.timer)

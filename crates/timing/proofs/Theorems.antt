@@ -15,9 +15,7 @@ use Rattle.board.specs.Board.{Board, total, board_of}
 use Rattle.timer.specs.Timer.{Timer, timer_of, timer_bytes, is_due}
 use Rattle.paper.specs.declared.answer.Refusal.{Refusal}
 use Rattle.paper.specs.declared.answer.Refusal.TheVariants.{NothingToDeliver}
-use Rattle.paper.specs.declared.answer.Answer.{Answer}
-use Rattle.paper.specs.declared.answer.Answer.TheVariants.{Accepted}
-use Rattle.paper.specs.Answers.{number_of}
+use Rattle.paper.specs.Answers.{number_of, Answer, accepts}
 use Rattle.paper.specs.Rules.{passes, runs_next}
 use Rattle.paper.specs.Named.{broken_rule}
 use Rattle.paper.specs.Refusals.{Test, no1, no2, Go, Stop, given}
@@ -93,7 +91,7 @@ module _ (z : Size) (l : List ℕ) (b : Board) (s : List ℕ) where
 
 -- ---- accepted means that the board passed, and that the timer was good
 only : (z : Size) (l s : List ℕ) (tests : List Test) (a : Answer) → let b = board_of z l in
-    Given a (no1 z l ∷ no2 z b ∷ no18 b s ∷ tests) → (v c m : ℕ) → a ≡ Accepted v c m
+    Given a (no1 z l ∷ no2 z b ∷ no18 b s ∷ tests) → (v c m : ℕ) → a ≡ accepts v c m
     → (length l ≡ total z) × (passes z b ≡ true) × (good_timer b s ≡ true)
 only z l s tests a g v c m e = let b = board_of z l in
     passed z l b s tests (subst (λ (a : Answer). Given a (no1 z l ∷ no2 z b ∷ no18 b s ∷ tests)) e g)

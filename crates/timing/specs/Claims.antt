@@ -6,17 +6,16 @@
 --   RulesAreNamed           2 is given exactly where the length is right and a rule is broken, and names what broken_rule says
 --   FreeNeverFires          a free entry is never due, also when now becomes 0, and a tick leaves it as it is
 -- Assumes nothing.
-use Rattle.std.specs.Prelude.{◌≡◌, true, false, List, ℕ, length}
+use Rattle.std.specs.Prelude.{◌≡◌, true, false, List, ℕ, length, Err}
 use Rattle.board.specs.declared.numbers.Size.{Size}
 use Rattle.board.specs.Board.{total, board_of}
 use Rattle.timer.specs.declared.entry.Entry.{Entry}
 use Rattle.timer.specs.Timer.{is_used, is_due}
 use Rattle.paper.specs.declared.answer.Refusal.{Refusal}
-use Rattle.paper.specs.declared.answer.Answer.{Answer}
-use Rattle.paper.specs.declared.answer.Answer.TheVariants.{Accepted, Refused}
 use Rattle.paper.specs.Rules.{passes}
 use Rattle.paper.specs.Named.{broken_rule}
 use Rattle.paper.specs.Claims.{Given, Names}
+use Rattle.paper.specs.Answers.{Answer, accepts}
 use Rattle.timing.specs.Timing.{good_timer, start_row, tick_row, freed, Timed, EndsTimed, start, tick}
 
 abbrev pub NoSecondOutcome : Type 0
@@ -24,7 +23,7 @@ NoSecondOutcome =
     (o : Timed) (a e : Answer) (l m s t : List ℕ) → EndsTimed a l s o → EndsTimed e m t o → (a ≡ e) × (l ≡ m) × (s ≡ t)
 
 abbrev pub Unchanged : List ℕ → List ℕ → Timed → Type 0
-Unchanged l s o = (q : Refusal) → o.answer ≡ Refused q → (o.board ≡ l) × (o.timer ≡ s)
+Unchanged l s o = (q : Refusal) → o.answer ≡ Err q → (o.board ≡ l) × (o.timer ≡ s)
 
 abbrev pub RefusalChangesNeither : Type 0
 RefusalChangesNeither =
@@ -32,7 +31,7 @@ RefusalChangesNeither =
 
 abbrev pub Only : Size → List ℕ → List ℕ → Timed → Type 0
 Only z l s o =
-    (v c m : ℕ) → o.answer ≡ Accepted v c m → let b = board_of z l in
+    (v c m : ℕ) → o.answer ≡ accepts v c m → let b = board_of z l in
     (length l ≡ total z) × (passes z b ≡ true) × (good_timer b s ≡ true)
 
 abbrev pub AcceptedPassed : Type 0

@@ -11,8 +11,8 @@ use Rattle.std.specs.Prelude.{◌≡◌, List, [], ◌∷◌, ℕ, suc}
 use Rattle.board.specs.declared.numbers.Size.{Size}
 use Rattle.board.specs.Numbers.{small}
 use Rattle.paper.specs.declared.call.Call.{Call}
-use Rattle.paper.specs.declared.answer.Answer.{Answer}
 use Rattle.paper.specs.Outcomes.{effect}
+use Rattle.paper.specs.Answers.{Answer}
 use Rattle.timing.specs.Timing.{Timed, EndsTimed, start, tick}
 
 pub data Event : Type 0 where

@@ -8,7 +8,7 @@
 --   start z l s m delay, tick z l s   start and tick on a board of the bytes l, with the timer buffer s
 --   EndsTimed a l s o     a contract's one clause: the answer a and the bytes l and s are those of the outcome o
 -- Assumes nothing.
-use Rattle.std.specs.Prelude.{◌≡◌, Bool, true, cond, not, ◌&&◌, ◌||◌, List, [], ◌∷◌, map, ℕ, ◌+◌, ◌%◌, length, eqb}
+use Rattle.std.specs.Prelude.{◌≡◌, Ok, Err, Bool, true, cond, not, ◌&&◌, ◌||◌, List, [], ◌∷◌, map, ℕ, ◌+◌, ◌%◌, length, eqb}
 use Rattle.links.specs.Queue.{first_of, cons_if, which, rearranged}
 use Rattle.board.specs.declared.numbers.Size.{Size}
 use Rattle.board.specs.declared.places.Place.TheVariants.{OnTimer}
@@ -17,11 +17,10 @@ use Rattle.board.specs.Board.{Board, board_of, message, with_place}
 use Rattle.timer.specs.declared.entry.Entry.{Entry}
 use Rattle.timer.specs.Timer.{Timer, timer, timer_length, timer_of, timer_bytes, no_entry, is_used, is_due, with_entry}
 use Rattle.paper.specs.declared.answer.Refusal.TheVariants.{NoDelay, NoTimerFree, BadTimer}
-use Rattle.paper.specs.declared.answer.Answer.{Answer}
-use Rattle.paper.specs.declared.answer.Answer.TheVariants.{Accepted, Refused}
 use Rattle.paper.specs.Effects.{give_back}
 use Rattle.paper.specs.Refusals.{Test, test, no1, no2, no3, no4, no5, no6, no7, given}
 use Rattle.paper.specs.Outcomes.{Outcome, judge, undispatched, dispatch}
+use Rattle.paper.specs.Answers.{Answer, accepts}
 
 -- ---- 18: the length isn't 50, a free entry isn't zero, or the messages placed 128 aren't exactly those in entries, once each
 abbrev pub used : List Entry → List ℕ
@@ -95,8 +94,8 @@ pub record Timed : Type 0 where
 
 -- refused leaves the buffer as it was, as it leaves the board
 abbrev pub accepting : Answer → List ℕ → List ℕ → List ℕ
-accepting (Accepted v c m) s after = after
-accepting (Refused q) s after = s
+accepting (Ok a) s after = after
+accepting (Err q) s after = s
 
 abbrev pub timed : Outcome → List ℕ → Timer → Timed
 timed o s after = record { answer = o.answer; board = o.after; timer = accepting o.answer s (timer_bytes after) }

@@ -1,4 +1,5 @@
 -- `calls::body` meets its contract.
+use Rattle.inner.proofs.Steps.{unmoved}
 use Rattle.wait_calls.proofs.Waiting.{send-waits, resend-waits, forward-waits, return_waits}
 use Rattle.calls.proofs.body.Goals as goal
 
@@ -10,7 +11,9 @@ returns-in-PostInterrupt c =
     rw c.in-PostInterrupt.is c.post_interrupt.ensures
 
 pub returns-in-Find : goal.returns-in-Find
-returns-in-Find c = rw c.in-Find.is c.find_task.ensures
+returns-in-Find c =
+    let f = rw (c.read.ensures.0, c.read.ensures.1) at c.find_task.ensures in
+    rw c.in-Find.is (unmoved f)
 
 pub returns-in-CancelTask : goal.returns-in-CancelTask
 returns-in-CancelTask c =
@@ -32,7 +35,7 @@ returns-in-Send c = rw c.in-Send.is c.send.ensures
 
 pub returns-in-SendAndWait : goal.returns-in-SendAndWait
 returns-in-SendAndWait c =
-    send-waits c.args.z c.args.l.now c.requires.1 c.then_wait.ensures c.in-SendAndWait.is
+    send-waits c.requires c.then_wait.ensures c.in-SendAndWait.is
     c.send-placed.ensures
 
 pub returns-in-Resend : goal.returns-in-Resend
@@ -41,7 +44,7 @@ returns-in-Resend c =
 
 pub returns-in-ResendAndWait : goal.returns-in-ResendAndWait
 returns-in-ResendAndWait c =
-    resend-waits c.args.z c.args.l.now c.requires.1 c.then_wait-in-ResendAndWait.ensures
+    resend-waits c.requires c.then_wait-in-ResendAndWait.ensures
     c.in-ResendAndWait.is c.resend-placed.ensures
 
 pub returns-in-Forward : goal.returns-in-Forward
@@ -50,7 +53,7 @@ returns-in-Forward c =
 
 pub returns-in-ForwardAndWait : goal.returns-in-ForwardAndWait
 returns-in-ForwardAndWait c =
-    forward-waits c.args.z c.args.l.now c.requires.1 c.then_wait-in-ForwardAndWait.ensures
+    forward-waits c.requires c.then_wait-in-ForwardAndWait.ensures
     c.in-ForwardAndWait.is c.forward-placed.ensures
 
 pub returns-in-Return : goal.returns-in-Return
@@ -59,7 +62,7 @@ returns-in-Return c =
 
 pub returns-in-ReturnAndWait : goal.returns-in-ReturnAndWait
 returns-in-ReturnAndWait c =
-    return_waits c.args.z c.args.l.now c.requires.1 c.then_wait-in-ReturnAndWait.ensures
+    return_waits c.requires c.then_wait-in-ReturnAndWait.ensures
     c.in-ReturnAndWait.is c.give_back-placed.ensures
 
 pub returns-in-Receive : goal.returns-in-Receive

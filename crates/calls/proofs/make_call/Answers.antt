@@ -3,6 +3,4 @@ use Rattle.calls.proofs.Making.{makes}
 use Rattle.calls.proofs.make_call.Goals as goal
 
 pub returns : goal.returns
-returns c =
-    makes c.args.z c.args.l.now c.args.call c.requires.1
-    c.body-done.ensures c.dispatch.ensures
+returns c = makes c.args.call c.requires c.body-done.ensures c.dispatch.ensures

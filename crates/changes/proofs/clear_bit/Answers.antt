@@ -1,10 +1,8 @@
 -- `changes::clear_bit` meets its contract.
-use Rattle.changes.proofs.Stored.{bit_cleared}
 use Rattle.changes.proofs.clear_bit.Goals as goal
 
 pub returns : goal.returns
 returns c =
-    let a = c.args in
-    bit_cleared a.z a.l.now a.k.0 c.task_at-t.result c.with_stat.result _ c.task_at-t.ensures
-    c.put_task.ensures c.without.result a.bit c.without.ensures
-    c.with_stat.ensures
+    let t = rw (c.read.ensures.0, c.read.ensures.1) at c.task-t.ensures in
+    let e = c.put_task.ensures in
+    record { bytes = rw (c.with_stat.ensures, c.without.ensures, t) at e.bytes; size = e.size; loan = e.loan }

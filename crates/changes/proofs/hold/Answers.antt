@@ -1,8 +1,9 @@
 -- `changes::hold` meets its contract.
-use Rattle.changes.proofs.Stored.{held}
+use mathlib.Core.Path.{◌∙◌}
 use Rattle.changes.proofs.hold.Goals as goal
 
 pub returns : goal.returns
 returns c =
-    let a = c.args in
-    held a.z a.l.now a.c a.m.0 _ _ c.link_message.ensures c.put_place.ensures
+    let d = c.link_message.ensures in
+    let e = c.put_place.ensures in
+    record { bytes = rw (d.size, d.bytes) at e.bytes; size = e.size ∙ d.size; loan = e.loan ∙ d.loan }

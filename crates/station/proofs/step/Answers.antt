@@ -1,31 +1,20 @@
 -- `station::step` meets its contract.
-use Rattle.station.proofs.Answers.{sized_whole}
+use Rattle.std.proofs.lemmas.Result.{err_from_is_err_and}
 use Rattle.station.proofs.Fitted.{fitted}
-use Rattle.station.proofs.Stepping.{step_length, step_broken, step-made, runner-asked}
+use Rattle.station.proofs.Stepping.{runner-asked, step_broken, step-made}
 use Rattle.station.proofs.step.Goals as goal
 
-pub returns-then-not-sized : goal.returns-then-not-sized
-returns-then-not-sized c =
-    step_length c.args.l.now c.args.call c.sized.ensures c.if-not-sized.true-raw
+pub returns-in_err-c : goal.returns-in_err-c
+returns-in_err-c c =
+    let a = c.args in
+    let p = err_from_is_err_and c.from_residual.result c.from_residual.ensures.1 in
+    rw (p.1, p.2) (step_broken a.l.now a.call c.sized.ensures c.if-not-sized.false c.checked_small.ensures c.in_err-c.was)
 
-pub checked_small-checked-requires : goal.checked_small-checked-requires
-checked_small-checked-requires c =
-    sized_whole c.args.l.now c.sized.ensures c.if-not-sized.false-raw
+pub call_small-requires : goal.call_small-requires
+call_small-requires c = runner-asked c.args.l.now c.sized.ensures c.if-not-sized.false c.checked_small.ensures c.in_ok-c.was
 
-pub make_call-requires : goal.make_call-requires
-make_call-requires c =
-    runner-asked c.args.l.now c.sized.ensures c.if-not-sized.false-raw c.checked_small-checked.ensures
-    c.in-Passes.is
-
-pub returns-in-Broken : goal.returns-in-Broken
-returns-in-Broken c =
-    step_broken c.args.l.now c.args.call c.sized.ensures c.if-not-sized.false-raw c.checked_small-checked.ensures
-    c.in-Broken.is
-
-pub returns-in-Passes : goal.returns-in-Passes
-returns-in-Passes c =
-    step-made c.args.l.now c.args.call c.sized.ensures c.if-not-sized.false-raw
-    c.checked_small-checked.ensures c.in-Passes.is
-    (λ i. (c.slice_known-1.given i).fits)
-    (fitted c.args.call c.well_formed.1.0) (λ i. (c.slice_known-in-Passes-1.given i).fits)
-    c.make_call.ensures
+pub returns : goal.returns
+returns c =
+    let a = c.args in
+    step-made a.l.now a.call c.sized.ensures c.if-not-sized.false c.checked_small.ensures c.in_ok-c.was
+    (λ i. (c.slice_known-1.given i).fits) (fitted a.call c.well_formed.1.0) (λ i. (c.type_inv.l i).fits) c.call_small.ensures

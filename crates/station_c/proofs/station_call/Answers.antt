@@ -1,4 +1,5 @@
 -- `station_c::station_call` meets its contract.
+use Rattle.std.specs.Prelude.{Some}
 use Rattle.station_c.proofs.Told.{no_call_told, made_told}
 use Rattle.station_c.proofs.station_call.Goals as goal
 
@@ -9,4 +10,4 @@ returns-in_default c =
 pub returns : goal.returns
 returns c =
     made_told c.args.board.now c.call_of_kind.ensures
-    c.in-Made.is c.pack.ensures c.step.ensures
+    c.in-Some.is c.pack.ensures c.step.ensures

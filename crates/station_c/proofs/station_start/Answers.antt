@@ -1,7 +1,6 @@
 -- `station_c::station_start` meets its contract.
 use mathlib.Core.Path.{ap, ◌∙◌}
-use Rattle.paper.specs.declared.answer.Answer.{Answer}
-use Rattle.paper.specs.Answers.{handed}
+use Rattle.paper.specs.Answers.{handed, Answer}
 use Rattle.for_c.specs.Packed.{packed}
 use Rattle.station_c.proofs.station_start.Goals as goal
 

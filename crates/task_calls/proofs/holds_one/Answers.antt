@@ -1,35 +1,18 @@
 -- `task_calls::holds_one` meets its contract.
 use mathlib.Core.Path.{refl}
-use native.Mathlib.Omega.{arith}
-use Rattle.task_calls.proofs.Holding.{holds_none, holds_here, holds_above_lem}
+use mathlib.Core.Bool.{Bool}
+use Prim.Native.Nat.{ℕ}
+use Rattle.std.proofs.Common.{rules}
+use Rattle.board.specs.Places.{is_held_by}
+use Rattle.board.specs.Board.{place}
+use Rattle.lent.specs.Lent.{board}
+use Rattle.task_calls.proofs.Searches.{any_place, any_says}
 use Rattle.task_calls.proofs.holds_one.Goals as goal
-
-pub loop-m-init : goal.loop-m-init
-loop-m-init c = (omega arith, refl, refl)
-
-pub overflow_add-m : goal.overflow_add-m
-overflow_add-m c = omega arith
-
-pub returns-then-is_held_by : goal.returns-then-is_held_by
-returns-then-is_held_by c =
-    let t = c.args in
-    holds_here t.z t.l.now t.k.0 c.loop-m.m c.loop-m.invariant.2
-    c.loop-m-test.true c.place_meant-p.ensures
-    c.is_held_by.ensures c.if-is_held_by.true
-
-pub loop-m-smaller : goal.loop-m-smaller
-loop-m-smaller c = omega arith
-
-pub loop-m-preserved : goal.loop-m-preserved
-loop-m-preserved c = (
-  omega arith,
-  c.loop-m.invariant.1,
-  holds_above_lem c.args.z c.args.l.now c.args.k.0 c.loop-m.m c.loop-m.invariant.2
-      c.loop-m-test.true c.place_meant-p.ensures
-      c.is_held_by.ensures c.if-is_held_by.false,
-)
 
 pub returns : goal.returns
 returns c =
-    let s = c.loop-m in let a = c.args in holds_none a.z a.l.now a.k.0
-    s.m s.invariant.2 (omega arith)
+    let held : ℕ → Bool = λ m. is_held_by c.args.k.0 (place (board c.args.l) m) in
+    let run = c.any.ensures.runs in
+    any_place c.args.l.size c.args.l.bytes.now (is_held_by c.args.k.0) refl c.any.result
+    (any_says (λ a r d e. search rules) held (λ x t e. search rules) c.new.ensures.start c.new.ensures.end c.new.ensures.exhausted
+    c.any.result run.0 run.1 run.2)

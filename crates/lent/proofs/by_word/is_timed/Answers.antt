@@ -1,17 +1,15 @@
 -- `lent::by_word::is_timed` meets its contract.
-use mathlib.Core.Path.{refl, sym, ap, ◌∙◌}
+use Rattle.std.proofs.Common.{ap, sym, ◌∙◌}
+use Rattle.board.specs.declared.numbers.MsgNo.{MsgNo}
 use Rattle.board.specs.Places.{is_on_timer}
-use Rattle.lent.proofs.ByWord.{place_of, place_none}
+use Rattle.board.specs.Board.{place}
+use Rattle.board.proofs.Meant.{message_meant-message, message_meant_none}
+use Rattle.lent.specs.Lent.{board}
+use Rattle.lent.proofs.Access.{place_none}
 use Rattle.lent.proofs.by_word.is_timed.Goals as goal
 
-pub returns-in_default : goal.returns-in_default
-returns-in_default c =
-    let a = c.args in
-    ap is_on_timer (place_none a.z a.l.now a.w _ (sym c.meant-meant.ensures ∙ c.in_default.is) refl)
+pub returns-in-Some : goal.returns-in-Some
+returns-in-Some c = let b = c.args.b in c.on_timer.ensures ∙ ap (λ (j : MsgNo). is_on_timer (place (board b) j.0)) (message_meant-message b.size c.args.w _ (sym c.in-Some.ensures)).1
 
-pub returns : goal.returns
-returns c =
-    let a = c.args in
-    c.on_timer.ensures
-    ∙ ap is_on_timer (place_of a.z a.l.now a.w _ _
-    (sym c.meant-meant.ensures ∙ c.in-Message.is) refl)
+pub returns-in-None : goal.returns-in-None
+returns-in-None c = let b = c.args.b in ap is_on_timer (place_none b.size b.bytes.now c.args.w (message_meant_none b.size c.args.w (sym c.in-None.ensures)))

@@ -1,17 +1,14 @@
 -- `lent::by_word::message_meant` meets its contract.
-use mathlib.Core.Path.{sym, ◌∙◌}
-use Rattle.lent.proofs.ByWord.{message_of, message_none}
+use Rattle.std.proofs.Common.{ap, sym, ◌∙◌}
+use Rattle.board.specs.declared.numbers.MsgNo.{MsgNo}
+use Rattle.board.specs.Board.{message}
+use Rattle.board.proofs.Meant.{message_meant-message, message_meant_none}
+use Rattle.lent.specs.Lent.{board}
+use Rattle.lent.proofs.Access.{message_none}
 use Rattle.lent.proofs.by_word.message_meant.Goals as goal
 
-pub returns-in_default : goal.returns-in_default
-returns-in_default c =
-    let a = c.args in
-    message_none a.z a.l.now a.w _
-    (sym c.meant-meant.ensures ∙ c.in_default.is) c.none.ensures
+pub returns-in-Some : goal.returns-in-Some
+returns-in-Some c = let b = c.args.b in c.message.ensures ∙ ap (λ (j : MsgNo). message (board b) j.0) (message_meant-message b.size c.args.w _ (sym c.in-Some.ensures)).1
 
-pub returns : goal.returns
-returns c =
-    let a = c.args in
-    message_of a.z a.l.now a.w _ _
-    (sym c.meant-meant.ensures ∙ c.in-Message.is)
-    c.message_at.ensures
+pub returns-in-None : goal.returns-in-None
+returns-in-None c = let b = c.args.b in c.none.ensures ∙ message_none b.size b.bytes.now c.args.w (message_meant_none b.size c.args.w (sym c.in-None.ensures))

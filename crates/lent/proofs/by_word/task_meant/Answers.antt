@@ -1,17 +1,14 @@
 -- `lent::by_word::task_meant` meets its contract.
-use mathlib.Core.Path.{sym, ◌∙◌}
-use Rattle.lent.proofs.ByWord.{task_of, task_none}
+use Rattle.std.proofs.Common.{ap, sym, ◌∙◌}
+use Rattle.board.specs.declared.numbers.TaskNo.{TaskNo}
+use Rattle.board.specs.Board.{task}
+use Rattle.board.proofs.Meant.{task_meant-task, task_meant_none}
+use Rattle.lent.specs.Lent.{board}
+use Rattle.lent.proofs.Access.{task_none}
 use Rattle.lent.proofs.by_word.task_meant.Goals as goal
 
-pub returns-in_default : goal.returns-in_default
-returns-in_default c =
-    let a = c.args in
-    task_none a.z a.l.now a.w _
-    (sym c.meant-meant.ensures ∙ c.in_default.is) c.none.ensures
+pub returns-in-Some : goal.returns-in-Some
+returns-in-Some c = let b = c.args.b in c.task.ensures ∙ ap (λ (j : TaskNo). task (board b) j.0) (task_meant-task b.size c.args.w _ (sym c.in-Some.ensures)).1
 
-pub returns : goal.returns
-returns c =
-    let a = c.args in
-    task_of a.z a.l.now a.w _ _
-    (sym c.meant-meant.ensures ∙ c.in-Task.is)
-    c.task_at.ensures
+pub returns-in-None : goal.returns-in-None
+returns-in-None c = let b = c.args.b in c.none.ensures ∙ task_none b.size b.bytes.now c.args.w (task_meant_none b.size c.args.w (sym c.in-None.ensures))

@@ -1,20 +1,26 @@
 -- `place_calls::sends::give_back` meets its contract.
-use mathlib.Core.Path.{refl}
+use mathlib.Core.Path.{refl, ap}
+use Rattle.std.proofs.lemmas.Result.{err_from_is_err_and}
+use Rattle.board.specs.declared.records.Message.{Message}
 use Rattle.board.specs.Board.{board_of, message}
 use Rattle.paper.specs.declared.call.Call.TheVariants.{Return}
-use Rattle.inner.proofs.Steps.{not_held_stops}
+use Rattle.inner.proofs.Steps.{not_held_stops, unmoved}
 use Rattle.place_calls.proofs.Sending.{passes_on_lem}
 use Rattle.place_calls.proofs.sends.give_back.Goals as goal
 
-pub returns-in-Not : goal.returns-in-Not
-returns-in-Not c =
-    let s = c.args in
-    not_held_stops s.z s.l.now (Return s.m) s.m _ refl c.held-h.ensures
-    c.in-Not.is refl
+pub returns-in_err-m : goal.returns-in_err-m
+returns-in_err-m c =
+    let a = c.args in
+    let l = a.l.now in
+    let h = rw (c.read.ensures.0, c.read.ensures.1) at c.held.ensures in
+    let p = err_from_is_err_and c.from_residual.result c.from_residual.ensures.1 in
+    rw (p.1, p.2) (unmoved (not_held_stops l.size l.bytes.now (Return a.m) a.m _ refl h c.in_err-m.was refl))
 
-pub returns-in-By : goal.returns-in-By
-returns-in-By c =
-    passes_on_lem c.args.z c.args.l.now (Return c.args.m) c.args.m
-    (λ m. (message (board_of c.args.z c.args.l.now) m).sptr) refl refl
-    c.held-h.ensures c.in-By.is
-    (λ i. (c.message_at-u.ensures i).sptr) c.pass_on.ensures
+pub returns : goal.returns
+returns c =
+    let a = c.args in
+    let l = a.l.now in
+    let h = rw (c.read.ensures.0, c.read.ensures.1) at c.held.ensures in
+    let u = rw (c.read-2.ensures.0, c.read-2.ensures.1) at c.message-r.ensures in
+    passes_on_lem l (Return a.m) a.m (λ m. (message (board_of l.size l.bytes.now) m).sptr) refl refl h c.in_ok-m.was
+    (ap (λ (u : Message). u.sptr) u) c.pass_on.ensures

@@ -1,16 +1,12 @@
 -- `rules::records::survey_messages` meets its contract.
-use mathlib.Core.Path.{◌≡◌}
-use mathlib.Core.Bool.{true}
-use Prim.Native.Nat.{◌-◌, ◌≤◌}
+use Rattle.std.proofs.Common.{◌≡◌, true}
 use Rattle.links.specs.Queue.{each}
-use Rattle.board.specs.Board.{board_of}
+use Rattle.lent.specs.Lent.{board}
 use Rattle.queue_rules.specs.Walks.{counted, queued}
 use Rattle.rules.specs.Checked.{rule4_of}
 use Rattle.rules.proofs.records.survey_messages.Given as goal
 
-abbrev pub invariant-loop-m : goal.invariant-loop-m
-invariant-loop-m l =
-    (l.m ≤ l.most) × (l.most ≡ l.z.messages) × (each (rule4_of l.edition l.z (board_of l.z l.l)) l.m ≡ true) × (l.queued ≡ counted (queued (board_of l.z l.l)) l.m)
-
-abbrev pub decreases-loop-m : goal.decreases-loop-m
-decreases-loop-m l = l.most - l.m
+abbrev pub invariant-loop-before : goal.invariant-loop-before
+invariant-loop-before l =
+    let b = board l.l in
+    (each (rule4_of l.edition l.l.size b) l.before ≡ true) × (l.queued ≡ counted (queued b) l.before)

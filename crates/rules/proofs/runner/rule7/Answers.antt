@@ -1,23 +1,19 @@
 -- `rules::runner::rule7` meets its contract.
-use Rattle.rules.proofs.Runs.{nobody_so, nobody_not, leads-passes, leads_breaks}
+use mathlib.Core.Path.{sym, ap, ◌∙◌}
+use mathlib.Core.Bool.{Bool, cond}
+use Rattle.std.specs.Prelude.{Ok, Err}
+use Rattle.paper.specs.declared.answer.Rule.TheVariants.{R7}
+use Rattle.rules.specs.Checked.{Checked}
+use Rattle.rules.proofs.Runs.{nobody_ran, leads_ran}
+use Rattle.rules.proofs.runner.rule7.Goals.{in-Some, in-None}
 use Rattle.rules.proofs.runner.rule7.Goals as goal
 
-pub returns-then-c-eq0 : goal.returns-then-c-eq0
-returns-then-c-eq0 c =
+pub returns-else-runs : goal.returns-else-runs
+returns-else-runs c =
     let a = c.args in
-    nobody_so a.z a.l.now a.first c.byte-c.ensures c.meant-meant.ensures c.in_default.is c.if-c-eq0.true
-
-pub returns-in_default : goal.returns-in_default
-returns-in_default c =
-    let a = c.args in
-    nobody_not a.z a.l.now a.first c.byte-c.ensures c.meant-meant.ensures c.in_default.is c.if-c-eq0.false
-
-pub returns-then-leads : goal.returns-then-leads
-returns-then-leads c =
-    let a = c.args in
-    leads-passes a.z a.l.now a.first c.byte-c.ensures c.meant-meant.ensures c.in-Task.is c.leads.ensures c.if-leads.true
-
-pub returns : goal.returns
-returns c =
-    let a = c.args in
-    leads_breaks a.z a.l.now a.first c.byte-c.ensures c.meant-meant.ensures c.in-Task.is c.leads.ensures c.if-leads.false
+    let of : Bool → Checked = λ t. cond t (Ok c.meant-meant.result) (Err (R7 c.byte-c.result)) in
+    ap of (sym c.if-runs.false)
+    ∙ elim c.match-first.branch [
+      | in-Some w ↦ leads_ran a.l.size a.l.bytes.now a.first c.byte-c.ensures c.meant-meant.ensures w.in-Some.is (w.runs-is ∙ w.leads-runs.ensures)
+      | in-None w ↦ nobody_ran a.l.size a.l.bytes.now a.first c.byte-c.ensures c.meant-meant.ensures w.in-None.is w.runs-is
+    ]

@@ -1,48 +1,16 @@
 -- `task_queue::seek::spot_of_task` meets its contract.
 use lib.Dec.{eqb}
-use mathlib.Core.Path.{refl, ap, ◌∙◌}
-use native.Mathlib.Omega.{arith}
-use Rattle.board.specs.declared.records.Task.{Task}
-use Rattle.board.specs.Numbers.{task_meant, number_of_task}
+use Rattle.std.proofs.Common.{rules, refl}
 use Rattle.board.specs.Board.{board_of}
 use Rattle.paper.specs.Rules.{next_task}
-use Rattle.stores.proofs.Seeks.{task-kind, real, ended, stopped, passed, spent, is_it, not_it}
-use Rattle.task_queue.proofs.Stored.{task_spot_lem}
+use Rattle.stores.proofs.Seeks.{task-kind}
+use Rattle.changes.proofs.Spots.{spot_found}
 use Rattle.task_queue.proofs.seek.spot_of_task.Goals as goal
 
-pub loop-left-init : goal.loop-left-init
-loop-left-init c = record {
-  same = refl;
-  last = refl;
-  here = let a = c.args in (real (task-kind a.z) _ (board_of a.z a.l.now).first c.first_task-cur.ensures).1;
-}
-
-pub loop-left-smaller : goal.loop-left-smaller
-loop-left-smaller c = omega arith
-
-pub loop-left-preserved : goal.loop-left-preserved
-loop-left-preserved c =
+pub returns : goal.returns
+returns c =
     let a = c.args in
-    passed (task-kind a.z) c.loop-left.invariant _ c.in-Task.is _ (next_task (board_of a.z a.l.now) c.in-Task.k.0)
-    c.loop-left-test.true
-    (not_it c.number.ensures c.number-in-loop-left.ensures c.if-number.false)
-    (c.next-cur.ensures ∙ ap (λ (t : Task). task_meant a.z t.link) c.task_at-t.ensures) refl
-
-pub returns-after-loop-left : goal.returns-after-loop-left
-returns-after-loop-left c =
-    let a = c.args in
-    task_spot_lem a.z a.l.now (λ y. eqb y a.x.0) _ _ _ c.first_task-cur.ensures
-    (spent c.loop-left.invariant c.loop-left-test.false)
-
-pub returns-in_default : goal.returns-in_default
-returns-in_default c =
-    let a = c.args in
-    task_spot_lem a.z a.l.now (λ y. eqb y a.x.0) _ _ _ c.first_task-cur.ensures
-    (ended c.loop-left.invariant (ap number_of_task c.in_default.is))
-
-pub returns-then-number : goal.returns-then-number
-returns-then-number c =
-    let a = c.args in
-    task_spot_lem a.z a.l.now (λ y. eqb y a.x.0) _ _ _ c.first_task-cur.ensures
-    (stopped (task-kind a.z) c.loop-left.invariant _ c.in-Task.is
-    (is_it c.number.ensures c.number-in-loop-left.ensures c.if-number.true))
+    let z = a.l.size in
+    let b = board_of z a.l.bytes.now in
+    spot_found (task-kind z) (λ y. eqb y a.x.0) (next_task b) (λ k y h. search rules) (λ k t h. search rules)
+    z.messages b.first _ _ refl c.first_task.ensures c.seek.ensures

@@ -1,15 +1,12 @@
 -- `timer::bytes::entry_at` meets its contract.
-use mathlib.Core.Path.{refl}
-use Rattle.timer.proofs.Access.{entry_beyond, entry_reads}
+use Rattle.std.proofs.Common.{◌∙◌}
+use Rattle.timer.proofs.Access.{entry_none, entry_read}
 use Rattle.timer.proofs.bytes.entry_at.Goals as goal
 
-pub returns-then-i-gt16 : goal.returns-then-i-gt16
-returns-then-i-gt16 c =
-    let a = c.args in
-    entry_beyond a.s.now a.i _ c.if-i-gt16.true c.none-then-i-gt16.ensures
+pub returns-in_default : goal.returns-in_default
+returns-in_default c = c.none.ensures ∙ entry_none c.args.s.now c.args.i c.in_default.ensures
 
 pub returns : goal.returns
 returns c =
-    let a = c.args in
-    entry_reads a.s.now a.i _ c.if-i-eq0.false c.if-i-gt16.false refl _ _ c.byte_in.ensures
-    c.word.ensures
+    let r = entry_read c.args.s.now c.args.i c.in-Some.o c.in-Some.ensures.0 c.in-Some.ensures.1 in
+    cc

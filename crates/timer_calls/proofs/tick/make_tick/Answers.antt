@@ -3,6 +3,4 @@ use Rattle.timer_calls.proofs.Returning.{tick-made}
 use Rattle.timer_calls.proofs.tick.make_tick.Goals as goal
 
 pub returns : goal.returns
-returns c =
-    tick-made c.args.z c.args.l.now c.args.s.now c.requires.0.1.1 c.tick_body-stirred.ensures
-    c.dispatch.ensures
+returns c = tick-made c.args.s.now c.requires.0.1 c.tick_body-stirred.ensures c.dispatch.ensures

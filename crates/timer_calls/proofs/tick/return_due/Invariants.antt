@@ -1,10 +1,9 @@
 -- `timer_calls::tick::return_due` meets its contract.
-use Rattle.std.proofs.Common.{◌≡◌, ◌-◌, length}
+use Rattle.std.proofs.Common.{◌≡◌}
 use Rattle.timer_calls.proofs.Returning.{Going}
 use Rattle.timer_calls.proofs.tick.return_due.Given as goal
 
-abbrev pub invariant-loop-i : goal.invariant-loop-i
-invariant-loop-i l = (length l.l ≡ length l.initial.l) × Going l.z l.at l.initial.l l.initial.s l.l l.s l.i l.any
-
-abbrev pub decreases-loop-i : goal.decreases-loop-i
-decreases-loop-i l = 16 - l.i
+abbrev pub invariant-loop-before : goal.invariant-loop-before
+invariant-loop-before l =
+    (l.l.size ≡ l.initial.l.size) × (l.l.bytes.ghost_name ≡ l.initial.l.bytes.ghost_name)
+    × Going l.initial.l.size l.at l.initial.l.bytes.now l.initial.s l.l.bytes.now l.s l.before l.any

@@ -1,0 +1,12 @@
+-- `lent::bytes::Lent::place` meets its contract.
+use Rattle.lent.proofs.Access.{place_none, place_read}
+use Rattle.lent.proofs.bytes.Lent.place.Goals as goal
+
+pub returns-in_default : goal.returns-in_default
+returns-in_default c = let a = c.args in place_none a.self.size a.self.bytes.now a.m.0 c.in_default.ensures
+
+pub returns : goal.returns
+returns c =
+    let a = c.args in
+    let r = place_read a.self.size a.self.bytes.now a.m.0 c.in-Some.o c.in-Some.ensures.0 c.in-Some.ensures.1 in
+    cc

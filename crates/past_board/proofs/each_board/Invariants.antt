@@ -1,4 +1,0 @@
-use Rattle.past_board.proofs.each_board.Given as goal
-
-abbrev pub decreases-loop-turns : goal.decreases-loop-turns
-decreases-loop-turns g l = l.turns

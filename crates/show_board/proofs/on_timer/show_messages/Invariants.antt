@@ -1,8 +1,0 @@
-use Rattle.std.proofs.Common.{◌-◌, ◌≤◌}
-use Rattle.show_board.proofs.on_timer.show_messages.Given as goal
-
-abbrev pub invariant-loop-m : goal.invariant-loop-m
-invariant-loop-m g l = l.m ≤ 128
-
-abbrev pub decreases-loop-m : goal.decreases-loop-m
-decreases-loop-m g l = 128 - l.m
