@@ -1,4 +1,4 @@
-// CODE. What a call has come to before dispatch, as enums, the record that send stores, and beneath them (specs/) what code stores for each
+// CODE. What a call has come to before dispatch, the record that send stores, and beneath them (specs/) what code stores for each
 // call, as one list of bytes after another. Contracts of code cite this crate; that the stores come to document 01's effects is proved above
 // it (stored), so no reader needs to believe it.
 #![tactic(auto)]
