@@ -21,6 +21,7 @@ use std::io::Write;
 use std::rt::Files;
 use telling::finding::judged;
 use telling::input::read_full;
+use telling::output::Pieces;
 use telling::timer_buffer::{Timer, is_lent, read_timer, timer_judged};
 use telling::walks::tasks;
 
@@ -78,7 +79,7 @@ fn draw<R: Files, W: Write>(rt: &R, out: &mut W, l: &[u8]) -> io::Result<()> {
 }
 
 fn main(rt: HostRuntime) -> io::Result<()> {
-    let mut out = rt.stdout();
+    let mut out = Pieces::of(rt.stdout());
     let mut space = [0u8; 65536];
     let n = read_full(&mut rt.stdin(), &mut space)?;
     draw(&rt, &mut out, &space[..n])?;

@@ -71,12 +71,13 @@ impl From<Call> for Arguments {
 }
 
 fn write<W: Write>(out: &mut W, given: Arguments, board: &[u8; 1476]) -> io::Result<()> {
-    out.write_all(&1476u16.to_le_bytes())?;
-    out.write_all(&[given.kind])?;
-    for w in [given.a, given.b, given.c] {
-        out.write_all(&w.to_le_bytes())?;
-    }
-    out.write_all(&[given.stat, given.prio])?;
+    let [low, high] = 1476u16.to_le_bytes();
+    let [a, a1] = given.a.to_le_bytes();
+    let [b, b1] = given.b.to_le_bytes();
+    let [c, c1] = given.c.to_le_bytes();
+    out.write_all(&[
+        low, high, given.kind, a, a1, b, b1, c, c1, given.stat, given.prio,
+    ])?;
     out.write_all(board)
 }
 

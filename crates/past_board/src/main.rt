@@ -22,6 +22,7 @@ use std::io;
 use std::io::{Read, Write};
 use telling::finding::judged;
 use telling::input::read_full;
+use telling::output::Pieces;
 
 // How the program is asked: for one board in this form, or for several in words.
 #[derive(Clone, Copy)]
@@ -67,7 +68,7 @@ fn one_board<R: Read, W: Write>(input: &mut R, out: &mut W, form: Form) -> io::R
     tell_past(out, &space[..n], form)
 }
 
-// The next of several boards; false where there is none.
+// The next of several boards; false where there is none. Each is told before the next is read.
 fn next_board<R: Read, W: Write>(input: &mut R, out: &mut W) -> io::Result<bool> {
     let mut space = [0u8; 1476];
     let n = read_full(input, &mut space)?;
@@ -75,6 +76,7 @@ fn next_board<R: Read, W: Write>(input: &mut R, out: &mut W) -> io::Result<bool>
         return Ok(false);
     }
     tell_past(out, &space[..n], Form::Words)?;
+    out.flush()?;
     Ok(true)
 }
 
@@ -106,7 +108,7 @@ fn way_asked(rt: &impl Env) -> Option<Way> {
 }
 
 fn main(rt: HostRuntime) -> io::Result<()> {
-    let mut out = rt.stdout();
+    let mut out = Pieces::of(rt.stdout());
     let mut input = rt.stdin();
     match way_asked(&rt) {
         Some(Way::One(form)) => one_board(&mut input, &mut out, form)?,

@@ -53,7 +53,7 @@ impl<'a> Roles<'a> {
 
     // A guest is an absent task that a message was sent to: RPTR still names it.
     pub(crate) fn is_guest(self, k: u16) -> bool {
-        !self.task(k).present() && (1..=128).any(|m| self.message(m).rptr == k)
+        !self.task(k).present() && (1..129).any(|m| self.message(m).rptr == k)
     }
 
     // Who claims a message that ends in this place: its holder, or who fills the queues; nobody where it is free.
@@ -66,7 +66,8 @@ impl<'a> Roles<'a> {
     }
 
     // Who claims message m: of a free one it is who claims the next that is not. Where all behind it are free, none is claimed.
+    // The range has an open end, here and for guests: to go along a closed one takes half as long again, and there are many.
     pub(crate) fn claimer(self, m: u16) -> Option<u16> {
-        (m..=128).find_map(|n| self.claims(self.place(n)))
+        (m..129).find_map(|n| self.claims(self.place(n)))
     }
 }

@@ -23,6 +23,7 @@ use std::io::Write;
 use std::rt::Files;
 use telling::finding::{judged, tell_running};
 use telling::input::read_full;
+use telling::output::Pieces;
 use telling::state::{print_state, state_of};
 use telling::timer_buffer::{Timer, is_lent, read_timer, timer_judged};
 use telling::totals::{tell_blocks, tell_installed};
@@ -117,7 +118,7 @@ fn show<R: Files, W: Write>(rt: &R, out: &mut W, l: &[u8]) -> io::Result<()> {
 }
 
 fn main(rt: HostRuntime) -> io::Result<()> {
-    let mut out = rt.stdout();
+    let mut out = Pieces::of(rt.stdout());
     let mut space = [0u8; 65536];
     let n = read_full(&mut rt.stdin(), &mut space)?;
     show(&rt, &mut out, &space[..n])?;

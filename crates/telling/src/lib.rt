@@ -8,6 +8,7 @@ pub mod call;
 pub mod finding;
 pub mod input;
 pub mod order;
+pub mod output;
 pub mod print;
 pub mod state;
 pub mod timer_buffer;

@@ -51,9 +51,13 @@ pub fn thousands<W: Write>(out: &mut W, n: u64) -> io::Result<usize>
     if n < 1000 {
         return decimal(out, n);
     }
-    let k = decimal(out, n / 1000)?;
-    write!(out, ",{:03}", n % 1000)?;
-    Ok(k + 4)
+    Ok(
+        decimal(out, n / 1000)?
+            + text(
+                out,
+                &[b',', last_digit(n / 100), last_digit(n / 10), last_digit(n)],
+            )?,
+    )
 }
 
 pub fn last_digit(n: u64) -> u8
@@ -62,20 +66,36 @@ pub fn last_digit(n: u64) -> u8
     (48 + n % 10) as u8
 }
 
+// The last hexadecimal digit of a word. `write!` has them too, but does not say how many it writes.
+fn hex_digit(w: u16) -> u8 {
+    match (w % 16) as u8 {
+        d @ 0..=9 => b'0' + d,
+        d => b'A' - 10 + d,
+    }
+}
+
 // A byte as the paper writes it, with an H behind it.
 pub fn hex_byte<W: Write>(out: &mut W, b: u8) -> io::Result<usize>
     ensures { IfOk result (λ n. n ≡ 3) }
 {
-    write!(out, "{b:02X}H")?;
-    Ok(3)
+    let w = b as u16;
+    text(out, &[hex_digit(w / 16), hex_digit(w), b'H'])
 }
 
 // A word likewise.
 pub fn hex_word<W: Write>(out: &mut W, w: u16) -> io::Result<usize>
     ensures { IfOk result (λ n. n ≡ 5) }
 {
-    write!(out, "{w:04X}H")?;
-    Ok(5)
+    text(
+        out,
+        &[
+            hex_digit(w / 4096),
+            hex_digit(w / 256),
+            hex_digit(w / 16),
+            hex_digit(w),
+            b'H',
+        ],
+    )
 }
 
 // A byte as a character that can be printed: a dot stands for one that cannot.
