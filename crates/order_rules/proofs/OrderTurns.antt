@@ -3,7 +3,7 @@
 use mathlib.Core.Path.{◌≡◌, refl, sym, ap, ap₂, ◌∙◌}
 use mathlib.Core.Bool.{Bool, true, false, cond, ◌&&◌, true≢false}
 use mathlib.Core.List.{List}
-use Prim.Native.Nat.{ℕ, zero, suc, ◌+◌, ◌-◌, ◌≤◌, ◌<◌, min}
+use Prim.Native.Nat.{ℕ, zero, suc, ◌+◌, ◌-◌, ◌≤◌, ◌<◌}
 use native.Mathlib.Omega.{arith}
 use lib.ListN.{length}
 use lib.Dec.{eqb}
@@ -204,9 +204,9 @@ module _ (z : Size) (l : List ℕ) where
       )
 
   -- so n links tell of p tasks what more would, where they are no fewer than p
-  pub fewer_links : (p n : ℕ) → n ≡ min p z.messages
+  pub fewer_links : (p n : ℕ) → n ≤ z.messages → (p ≤ z.messages → n ≡ p)
       → listed_by p (order_from z board n board.first) ≡ listed_by p (order_from z board z.messages board.first)
-  fewer_links p n h =
+  fewer_links p n h g =
       told p (seen_in n) (first_in n) ∙ go (saw (seen_in n) p) refl (saw (seen_in z.messages) p) refl
       ∙ sym (told p (seen_in z.messages) (first_in z.messages))
     where
@@ -218,7 +218,7 @@ module _ (z : Size) (l : List ℕ) where
       go true e false f =
           let k = saw_bound p n e in absurd (true≢false (sym (saw_moves p n z.messages (omega arith) e).0 ∙ f))
       go false e true f =
-          let k = saw_bound p z.messages f in absurd (true≢false (sym (saw_moves p z.messages n (omega arith) f).0 ∙ e))
+          let k = g (saw_bound p z.messages f) in absurd (true≢false (sym (saw_moves p z.messages n (omega arith) f).0 ∙ e))
       go false e false f = refl
 
   -- R3's answer: the task queue is in order and this is its first ready task, or it is broken
