@@ -1,7 +1,12 @@
 // The walks along the links of a board: the tasks in queue order, and the messages of a queue in its order, each number with its
 // record.
-ghost use Rattle.std.specs.Prelude.{◌≡◌, ◌+◌, OnSome};
+ghost use Rattle.std.specs.Prelude.{◌≡◌, ◌+◌, OnSome, Option};
 ghost use Rattle.std.specs.Iterator.{at_most};
+ghost use Rattle.board.specs.declared.numbers.Size.{Size};
+ghost use Rattle.board.specs.Numbers.{task_meant, message_meant};
+ghost use Rattle.board.specs.Board.{task, message};
+ghost use Rattle.lent.specs.declared.bytes.Lent.{Lent};
+ghost use Rattle.lent.specs.Lent.{board};
 
 use board::numbers::{MsgNo, Size, TaskNo};
 use board::records::{Message, Task};
@@ -11,13 +16,23 @@ use lent::bytes::Lent;
 pub trait Linked: Copy {
     type Record: Copy;
 
-    fn record(self, l: Lent<'_>) -> Self::Record;
+    ghost read: { Lent → Self → Self.Record };
 
-    fn next_of(z: Size, u: Self::Record) -> Option<Self>;
+    ghost next_of: { Size → Self.Record → Option Self };
+
+    fn record(self, l: Lent<'_>) -> Self::Record
+        ensures { result ≡ read l.entry self };
+
+    fn next_of(z: Size, u: Self::Record) -> Option<Self>
+        ensures { result ≡ next_of z u };
 }
 
 impl Linked for TaskNo {
     type Record = Task;
+
+    ghost read = { λ l k. task (board l) k.0 };
+
+    ghost next_of = { λ z t. task_meant z t.link };
 
     fn record(self, l: Lent<'_>) -> Task {
         l.task(self)
@@ -30,6 +45,10 @@ impl Linked for TaskNo {
 
 impl Linked for MsgNo {
     type Record = Message;
+
+    ghost read = { λ l m. message (board l) m.0 };
+
+    ghost next_of = { λ z u. message_meant z u.link };
 
     fn record(self, l: Lent<'_>) -> Message {
         l.message(self)
