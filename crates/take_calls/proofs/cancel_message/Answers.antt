@@ -1,5 +1,4 @@
 -- `take_calls::cancel_message` meets its contract.
-use native.Mathlib.Omega.{arith}
 use Rattle.inner.proofs.Steps.{made}
 use Rattle.take_calls.proofs.Receiving.{cancels}
 use Rattle.take_calls.proofs.cancel_message.Goals as goal
@@ -13,5 +12,5 @@ returns c =
     let u = rw (c.read-3.ensures.0, c.read-3.ensures.1) at c.message.ensures in
     rw c.stirs.ensures
     (made c.take_back.ensures
-    (cancels l.size l.bytes.now c.requires (grind arith) a.m a.r c.meant.ensures (grind arith) p (grind arith) q
-    c.if-not-queued_at.false u c.number.ensures c.if-message-number.false c.take_back.ensures.bytes))
+    (cancels l.size l.bytes.now c.requires c.in_ok-c.ensures.ok_part a.m a.r c.meant.ensures c.in_ok-m.ensures.ok_part p
+    c.in_ok-r.ensures.ok_part q c.if-not-queued_at.false u c.number.ensures c.if-message-number.false c.take_back.ensures.bytes))
