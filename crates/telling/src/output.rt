@@ -1,8 +1,8 @@
-// Standard output in pieces: what is written is gathered until a piece is full, or until it is flushed. A write of the system costs
-// more than the text of an argument, and a picture has some thousand of these.
-ghost use Rattle.std.specs.Prelude.{◌≡◌, ◌≤◌, ◌++◌, [], None, cond, eqb, take, IfOk, OnOk};
+// Standard output in pieces: what is written is gathered until it fills a piece and more comes, or until it is flushed. A write
+// of the system costs more than the text of an argument, and a picture has some thousand of these.
+ghost use Rattle.std.specs.Prelude.{◌≡◌, ◌≤◌, ◌++◌, [], None, cond, eqb, take, IfErr, IfOk, OnOk};
 ghost use Rattle.std.specs.Io.{WritesAtMost};
-ghost use Rattle.std.specs.Io.KnownBytes.{Appends, WriteAppends};
+ghost use Rattle.std.specs.Io.KnownBytes.{Appends, Keeps, WriteAppends};
 
 use std::io;
 use std::io::Write;
@@ -30,6 +30,7 @@ impl<W: Write + Drop> Pieces<W> {
     fn hand_on(&mut self) -> io::Result<()>
         ensures empty { IfOk result (λ _. self.new.used ≡ 0) }
         ensures bytes { OnOk result (Appends (W.contents self.old.out) (W.contents self.new.out) (take self.old.used self.old.piece)) }
+        ensures kept { IfErr result (λ _. take self.new.used self.new.piece ≡ take self.old.used self.old.piece) }
     {
         self.out.write_all(&self.piece[..self.used])?;
         self.used = 0;
@@ -37,13 +38,18 @@ impl<W: Write + Drop> Pieces<W> {
     }
 }
 
-// No byte is lost, and they keep their order: each is put behind what is gathered, which begins anew where the piece was full.
+// Where nothing fails no byte is lost, and all keep their order: each is put behind what is gathered. A full piece is handed on
+// before the next begins, and the last by a flush. Where a write fails what is gathered stays.
 impl<W: Write + Drop> Write for Pieces<W> {
     fn write(&mut self, buf: &[u8]) -> io::Result<usize>
         ensures bound { WritesAtMost result buf.now }
         ensures bytes { WriteAppends None None result buf.now }
         ensures gathered { IfOk result (λ n. take self.new.used self.new.piece
             ≡ cond (eqb self.old.used 4096) [] (take self.old.used self.old.piece) ++ take n buf.now) }
+        ensures handed { OnOk result (Appends (W.contents self.old.out) (W.contents self.new.out)
+            (cond (eqb self.old.used 4096) (take self.old.used self.old.piece) [])) }
+        ensures more { IfOk result (λ n. n ≡ 0 → buf.now ≡ []) }
+        ensures kept { IfErr result (λ _. take self.new.used self.new.piece ≡ take self.old.used self.old.piece) }
     {
         if self.used == 4096 {
             self.hand_on()?;
@@ -54,7 +60,11 @@ impl<W: Write + Drop> Write for Pieces<W> {
         Ok(n)
     }
 
-    fn flush(&mut self) -> io::Result<()> {
+    fn flush(&mut self) -> io::Result<()>
+        ensures bytes { Keeps None None }
+        ensures empty { IfOk result (λ _. self.new.used ≡ 0) }
+        ensures handed { OnOk result (Appends (W.contents self.old.out) (W.contents self.new.out) (take self.old.used self.old.piece)) }
+    {
         self.hand_on()?;
         self.out.flush()
     }
