@@ -66,7 +66,7 @@ impl<'a> Roles<'a> {
     }
 
     // Who claims message m: of a free one it is who claims the next that is not. Where all behind it are free, none is claimed.
-    // The range has an open end, here and for guests: along a closed one a board of one task takes 15 % more instructions.
+    // The range has an open end, here and for guests: by a closed one a board of one task takes up to 15 % more instructions.
     pub(crate) fn claimer(self, m: u16) -> Option<u16> {
         (m..129).find_map(|n| self.claims(self.place(n)))
     }
