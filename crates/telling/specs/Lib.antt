@@ -1,3 +1,4 @@
 pub mod States
 pub mod Totals
 pub mod Findings
+pub mod Output

@@ -16,6 +16,8 @@ pub struct Pieces<W: Write + Drop> {
 }
 
 impl<W: Write + Drop> Pieces<W> {
+    ghost use Rattle.telling.specs.Output.{gathered};
+
     pub fn of(out: W) -> Pieces<W>
         ensures { (result.out ≡ out) × (result.used ≡ 0) }
     {
@@ -29,8 +31,8 @@ impl<W: Write + Drop> Pieces<W> {
     // What is gathered goes on.
     fn hand_on(&mut self) -> io::Result<()>
         ensures empty { IfOk result (λ _. self.new.used ≡ 0) }
-        ensures bytes { OnOk result (Appends (W.contents self.old.out) (W.contents self.new.out) (take self.old.used self.old.piece)) }
-        ensures kept { IfErr result (λ _. take self.new.used self.new.piece ≡ take self.old.used self.old.piece) }
+        ensures bytes { OnOk result (Appends (W.contents self.old.out) (W.contents self.new.out) (gathered self.old)) }
+        ensures kept { IfErr result (λ _. gathered self.new ≡ gathered self.old) }
     {
         self.out.write_all(&self.piece[..self.used])?;
         self.used = 0;
@@ -41,15 +43,17 @@ impl<W: Write + Drop> Pieces<W> {
 // Where nothing fails no byte is lost, and all keep their order: each is put behind what is gathered. A full piece is handed on
 // before the next begins, and the last by a flush. Where a write fails what is gathered stays.
 impl<W: Write + Drop> Write for Pieces<W> {
+    ghost use Rattle.telling.specs.Output.{gathered};
+
     fn write(&mut self, buf: &[u8]) -> io::Result<usize>
         ensures bound { WritesAtMost result buf.now }
         ensures bytes { WriteAppends None None result buf.now }
-        ensures gathered { IfOk result (λ n. take self.new.used self.new.piece
-            ≡ cond (eqb self.old.used 4096) [] (take self.old.used self.old.piece) ++ take n buf.now) }
+        ensures gathered { IfOk result (λ n. gathered self.new
+            ≡ cond (eqb self.old.used 4096) [] (gathered self.old) ++ take n buf.now) }
         ensures handed { OnOk result (Appends (W.contents self.old.out) (W.contents self.new.out)
-            (cond (eqb self.old.used 4096) (take self.old.used self.old.piece) [])) }
+            (cond (eqb self.old.used 4096) (gathered self.old) [])) }
         ensures more { IfOk result (λ n. n ≡ 0 → buf.now ≡ []) }
-        ensures kept { IfErr result (λ _. take self.new.used self.new.piece ≡ take self.old.used self.old.piece) }
+        ensures kept { IfErr result (λ _. gathered self.new ≡ gathered self.old) }
     {
         if self.used == 4096 {
             self.hand_on()?;
@@ -63,7 +67,7 @@ impl<W: Write + Drop> Write for Pieces<W> {
     fn flush(&mut self) -> io::Result<()>
         ensures bytes { Keeps None None }
         ensures empty { IfOk result (λ _. self.new.used ≡ 0) }
-        ensures handed { OnOk result (Appends (W.contents self.old.out) (W.contents self.new.out) (take self.old.used self.old.piece)) }
+        ensures handed { OnOk result (Appends (W.contents self.old.out) (W.contents self.new.out) (gathered self.old)) }
     {
         self.hand_on()?;
         self.out.flush()
